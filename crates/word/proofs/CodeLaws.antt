@@ -1,0 +1,151 @@
+-- What the code's tests, stores and loops make, in the words of specs/: for the proofs of this crate's functions. Assumes
+-- nothing.
+use mathlib.Core.Path.{_≡_, refl, sym, ap, _∙_}
+use mathlib.Core.List.{List, [], _∷_, _++_, append-assoc, append-nil}
+use mathlib.Core.Bool.{true, _&&_}
+use Prim.Native.Nat.{ℕ, zero, suc, max, _+_, _*_, _/_, _%_, _^_, _≤_, _<_, compare, Ordering·lt, Ordering·gt}
+use lib.ListN.{length, getD, set, drop, length-append, drop-of-length-le}
+use lib.Seq.{drop-cons}
+use lib.Dec.{eqb}
+use borrow.Author.Tests.{ne-eqb}
+use native.Mathlib.Nat.{div-div-eq-div-mul, div-lt-iff-lt-mul, pow-suc}
+use native.Mathlib.Numerals.{add-one}
+use native.Mathlib.Omega.{arith}
+use Rattle.word.specs.declared.Order.the-variants.{Less, Equal, Greater}
+use Rattle.word.specs.Key.{cmp, pick3, orderOf}
+use Rattle.word.specs.Part.{part, over}
+use Rattle.word.specs.Num.{le, un, zeros, allZero}
+use Rattle.word.specs.At.{readAt, writeAt, copyAt, clearAt, zeroAt}
+use Rattle.word.proofs.KeyOrder.{num-lt, num-gt, num-refl}
+use Rattle.word.proofs.PartLaws.{length-part, length-part-cut, length-over, getD-part, part-none, part-more, over-none, over-beside, set-over}
+use Rattle.word.proofs.NumLaws.{length-zeros, zeros-append, allZero-append, allZero-one, length-le}
+use Rattle.word.proofs.AtLaws.{readAt-in, writeAt-in, copyAt-in, clearAt-in, zeroAt-in}
+
+-- a byte stored behind those that are stored already
+over-more : (s : List ℕ) (a : ℕ) (b : List ℕ) (i v : ℕ) → length b ≡ i → a + i < length s → set (over s a b) (a + i) v ≡ over s a (b ++ (v ∷ []))
+over-more s a b i v e h =
+    rw (← e) (set-over (over s a b) (a + length b) v (omega (arith, length-over s a b (omega arith))) ∙ over-beside s a b (v ∷ []) (omega arith))
+
+-- the loop of `copy`: i bytes stand at their place
+module _ (d : List ℕ) (at : ℕ) (s : List ℕ) (from : ℕ) where
+  pub copy-start : d ≡ over d at (part s from 0)
+  copy-start = rw part-none (sym (over-none d at))
+
+  pub copy-turn : (i : ℕ) {e : List ℕ} → at + i < length d → from + i < length s → e ≡ over d at (part s from i)
+      → set e (at + i) (getD s (from + i) 0) ≡ over d at (part s from (i + 1))
+  copy-turn i h g p = rw (p, part-more s from i 0 g) (over-more d at (part s from i) i (getD s (from + i) 0) (length-part s from i (omega arith)) h)
+
+  pub copy-end : (n : ℕ) {i : ℕ} {e : List ℕ} → i ≡ n → at + n ≤ length d → from + n ≤ length s → e ≡ over d at (part s from i) → e ≡ copyAt d at s from n
+  copy-end n q h g p = rw (p, q) (sym (copyAt-in d at s from n h g))
+
+-- the loop of `clear`
+module _ (d : List ℕ) (at : ℕ) where
+  pub clear-start : d ≡ over d at (zeros 0)
+  clear-start = sym (unfold zeros in over-none d at)
+
+  pub clear-turn : (i : ℕ) {e : List ℕ} → at + i < length d → e ≡ over d at (zeros i) → set e (at + i) 0 ≡ over d at (zeros (i + 1))
+  clear-turn i h p = rw (p, ← zeros-append) (over-more d at (zeros i) i 0 (length-zeros i) h ∙ unfold zeros in refl)
+
+  pub clear-end : (n : ℕ) {i : ℕ} {e : List ℕ} → i ≡ n → at + n ≤ length d → e ≡ over d at (zeros i) → e ≡ clearAt d at n
+  clear-end n q h p = rw (p, q) (sym (clearAt-in d at n h))
+
+-- the loop of `is_zero`: m is the largest of i bytes
+max-zero : (m b : ℕ) → eqb (max m b) 0 ≡ (eqb m 0 && eqb b 0)
+max-zero zero b = let e : max 0 b ≡ b = omega arith in rw e
+max-zero (suc m) b = rw (ne-eqb (max (suc m) b) 0 (omega arith), ne-eqb (suc m) 0 (omega arith))
+
+module _ (s : List ℕ) (at : ℕ) where
+  pub zero-start : true ≡ allZero (part s at 0)
+  unfolding allZero
+  zero-start = rw part-none
+
+  pub zero-turn : (i m m′ : ℕ) → at + i < length s → eqb m 0 ≡ allZero (part s at i) → m′ ≡ max m (getD s (at + i) 0) → eqb m′ 0 ≡ allZero (part s at (i + 1))
+  zero-turn i m m′ h e q = rw (q, part-more s at i 0 h, allZero-append, allZero-one, ← e) (max-zero m (getD s (at + i) 0))
+
+  pub zero-end : (n m : ℕ) {i : ℕ} → i ≡ n → at + n ≤ length s → eqb m 0 ≡ allZero (part s at i) → eqb m 0 ≡ zeroAt s at n
+  zero-end n m q h e = rw (e, q) (sym (zeroAt-in s at n h))
+
+-- straight-line code stores, from the second byte on, vs at a + i, a + i + 1 and so on
+abbrev pub stored : List ℕ → ℕ → ℕ → List ℕ → List ℕ
+stored s a i [] = s
+stored s a i (v ∷ vs) = stored (set s (a + i) v) a (suc i) vs
+
+stored-more : (s : List ℕ) (a : ℕ) (b vs : List ℕ) → a + length b + length vs ≤ length s → stored (over s a b) a (length b) vs ≡ over s a (b ++ vs)
+stored-more s a b [] h = rw append-nil
+stored-more s a b (v ∷ vs) h =
+    let l : suc (length b) ≡ length (b ++ (v ∷ [])) = simp length-append (omega arith) in
+    rw (over-more s a b (length b) v refl (omega arith), l) (stored-more s a (b ++ (v ∷ [])) vs (omega arith) ∙ simp append-assoc)
+
+-- it cuts a number into bytes by divisors that grow; the highest byte is what is left
+abbrev pub cut : ℕ → ℕ → ℕ → List ℕ
+cut zero x m = x / m ∷ []
+cut (suc k) x m = x / m % 256 ∷ cut k x (m * 256)
+
+cut-le : (k x m : ℕ) → 0 < m → x < 256 ^ suc k * m → cut k x m ≡ le (suc k) (x / m)
+unfolding le
+cut-le zero x m pos h = let e : x / m < 256 = div-lt-iff-lt-mul pos .1 h in let f : x / m % 256 ≡ x / m = omega arith in rw f
+cut-le (suc k) x m pos h = rw (div-div-eq-div-mul x m 256) (ap (λ (t : List ℕ). x / m % 256 ∷ t) (cut-le k x (m * 256) (omega arith) (let g = rw (pow-suc 256 (suc k)) at h in omega arith)))
+
+pub write-straight : (k : ℕ) (s : List ℕ) (at x : ℕ) → at + suc (suc k) ≤ length s → x < 256 ^ suc (suc k)
+    → stored (set s at (x % 256)) at 1 (cut k x 256) ≡ writeAt (suc (suc k)) s at x
+unfolding le
+write-straight k s at x h small =
+    let e : cut k x 256 ≡ le (suc k) (x / 256) = cut-le k x 256 (omega arith) (rw (pow-suc 256 (suc k)) at small) in
+    let l = length-le (suc k) (x / 256) in
+    rw (writeAt-in (suc (suc k)) s at x h, e, set-over s at (x % 256) (omega arith)) (stored-more s at (x % 256 ∷ []) (le (suc k) (x / 256)) (omega arith))
+
+-- it reads, from the second byte on, bs at a + i, a + i + 1 and so on
+abbrev pub Reads : List ℕ → ℕ → ℕ → List ℕ → Type 0
+Reads s a i [] = Unit {0}
+Reads s a i (b ∷ bs) = (b ≡ getD s (a + i) 0) × Reads s a (suc i) bs
+
+-- it joins them by multiples that grow
+abbrev pub joined : ℕ → ℕ → List ℕ → ℕ
+joined r m [] = r
+joined r m (b ∷ bs) = joined (r + b * m) (m * 256) bs
+
+joined-un : (r m : ℕ) (bs : List ℕ) → joined r m bs ≡ r + un bs * m
+unfolding un
+joined-un r m [] = omega arith
+joined-un r m (b ∷ bs) = joined-un (r + b * m) (m * 256) bs ∙ omega arith
+
+reads-part : (s : List ℕ) (a i : ℕ) (bs : List ℕ) → a + i + length bs ≤ length s → Reads s a i bs → bs ≡ part s (a + i) (length bs)
+unfolding part
+reads-part s a i [] h r = refl
+reads-part s a i (b ∷ bs) h r =
+    let e : a + suc i ≡ suc (a + i) = omega arith in
+    let ih = rw e at (reads-part s a (suc i) bs (omega arith) (r .1)) in
+    rw (drop-cons s (a + i) 0 (omega arith)) (cc (r .0, ih))
+
+pub read-straight : (s : List ℕ) (at b : ℕ) (bs : List ℕ) → at + suc (length bs) ≤ length s → b ≡ getD s at 0 → Reads s at 1 bs → joined b 256 bs ≡ readAt (suc (length bs)) s at
+unfolding un
+read-straight s at b bs h p r =
+    let e : at + 0 ≡ at = omega arith in
+    let q = rw e at (reads-part s at 0 (b ∷ bs) (omega arith) (rw e p, r)) in
+    joined-un b 256 bs ∙ ap un q ∙ sym (readAt-in (suc (length bs)) s at h)
+
+-- the ways through `compare_part`, where the first i bytes are the same
+module _ (key s : List ℕ) (at n i : ℕ) (same : cmp key (part s at n) ≡ cmp (drop i key) (drop i (part s at n))) where
+  pub compare-longer : i < length key → length (part s at n) ≤ i → Greater ≡ orderOf (cmp key (part s at n))
+  compare-longer h g = rw (same, drop-cons key i 0 h, drop-of-length-le (part s at n) g)
+
+  pub compare-shorter : length key ≤ i → i < length (part s at n) → Less ≡ orderOf (cmp key (part s at n))
+  compare-shorter h g = rw (same, drop-of-length-le key h, drop-cons (part s at n) i 0 g)
+
+  pub compare-ended : length key ≤ i → length (part s at n) ≤ i → Equal ≡ orderOf (cmp key (part s at n))
+  compare-ended h g = rw (same, drop-of-length-le key h, drop-of-length-le (part s at n) g)
+
+  module _ (h : i < length key) (g : i < length (part s at n)) where
+    byte : cmp key (part s at n) ≡ pick3 (compare (getD key i 0) (getD s (at + i) 0)) Ordering·lt (cmp (drop (i + 1) key) (drop (i + 1) (part s at n))) Ordering·gt
+    byte =
+        let e = getD-part s at n i 0 (omega (arith, length-part-cut s at n)) in
+        rw (add-one, same, drop-cons key i 0 h, drop-cons (part s at n) i 0 g, e)
+
+    pub compare-less : getD key i 0 < getD s (at + i) 0 → Less ≡ orderOf (cmp key (part s at n))
+    compare-less l = rw (byte, num-lt (getD key i 0) (getD s (at + i) 0) l)
+
+    pub compare-greater : getD s (at + i) 0 < getD key i 0 → Greater ≡ orderOf (cmp key (part s at n))
+    compare-greater l = rw (byte, num-gt (getD key i 0) (getD s (at + i) 0) l)
+
+    pub compare-turn : getD key i 0 ≡ getD s (at + i) 0 → cmp key (part s at n) ≡ cmp (drop (i + 1) key) (drop (i + 1) (part s at n))
+    compare-turn e = rw (byte, e, num-refl)

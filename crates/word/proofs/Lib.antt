@@ -1,0 +1,5 @@
+pub mod KeyOrder
+pub mod PartLaws
+pub mod NumLaws
+pub mod AtLaws
+pub mod CodeLaws

@@ -1,0 +1,5 @@
+pub mod Pick
+pub mod Key
+pub mod Part
+pub mod Num
+pub mod At
