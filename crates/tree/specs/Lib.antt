@@ -1,0 +1,10 @@
+pub mod Map
+pub mod Tree
+pub mod Free
+pub mod Lookup
+pub mod Set
+pub mod Remove
+pub mod State
+pub mod Batch
+pub mod Run
+pub mod Walk
