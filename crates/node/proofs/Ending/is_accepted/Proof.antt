@@ -1,0 +1,15 @@
+use Prim.Native.Nat.{ℕ}
+use mathlib.Core.Path.{ap}
+use lib.Dec.{eqb}
+use native.Mathlib.Omega.{arith}
+use borrow.Author.Needs.{needs}
+use Rattle.node.proofs.Ending.is_accepted.Statement.{statement}
+use Rattle.node.proofs.Ending.is_accepted.Tie as tie
+
+pub is-accepted-spec : {M : Type 1} → statement M
+is-accepted-spec =
+    tie.close
+    (tie.spec
+    (λ c κs. search needs)  -- number-requires
+    (λ c. ap (λ (n : ℕ). eqb n 0) (c .number .ensures))  -- returns
+    )

@@ -1,0 +1,9 @@
+pub mod ByteLaws
+pub mod ScanLaws
+pub mod EncodeLaws
+pub mod LayoutLaws
+pub mod ReadLaws
+pub mod FillLaws
+pub mod Theorems
+pub mod Table
+pub mod WriteLaws

@@ -1,0 +1,14 @@
+use borrow.Author.Tests.{le-leb, lt-leb}
+use mathlib.Core.Path.{sym}
+use native.Mathlib.Omega.{arith}
+use borrow.Author.Needs.{needs}
+use Rattle.node.proofs.is_long_size.Statement.{statement}
+use Rattle.node.proofs.is_long_size.Tie as tie
+
+pub is-long-size-spec : {M : Type 1} → statement M
+is-long-size-spec =
+    tie.close
+    (tie.spec
+    (λ c. sym (le-leb _ _ (c .if1 .taken)))  -- returns
+    (λ c. sym (lt-leb _ _ (c .if1 .left)))  -- returns-2
+    )

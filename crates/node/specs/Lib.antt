@@ -1,0 +1,3 @@
+pub mod Codec
+pub mod Layout
+pub mod Mirror
