@@ -1,0 +1,12 @@
+pub mod PlaceLaws
+pub mod HeaderLaws
+pub mod StoreLaws
+pub mod Framing
+pub mod Building
+pub mod Unique
+pub mod FormatLaws
+pub mod AuditedLaws
+pub mod Reached
+pub mod Paragraph
+pub mod Theorems
+pub mod CodeLaws
