@@ -5,5 +5,9 @@ pub mod LayoutLaws
 pub mod ReadLaws
 pub mod FillLaws
 pub mod Theorems
-pub mod Table
 pub mod WriteLaws
+pub mod ArrayLaws
+pub mod EditLaws
+pub mod PositionLaws
+pub mod EditCode
+pub mod Table

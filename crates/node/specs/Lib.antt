@@ -1,3 +1,5 @@
 pub mod Codec
 pub mod Layout
 pub mod Mirror
+pub mod Edit
+pub mod EditMirror

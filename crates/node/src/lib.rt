@@ -7,6 +7,8 @@ ghost use Rattle.node.specs.Codec.{headAt, keyAt, endingNumber, isAccept
 ghost use Rattle.node.specs.Layout.{placesOf, readingOf, keyPlace, anyFirst, isLong, isNone, writtenOf, leftBy, writtenNumber, writtenLength};
 ghost use Rattle.node.specs.Mirror.{emptyPlaces, endedWith, measured, putSep};
 
+pub mod edit;
+
 pub struct Slot(pub u32);
 
 pub struct Value(pub u64);

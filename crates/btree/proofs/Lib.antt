@@ -1,0 +1,14 @@
+pub mod Natural
+pub mod ZipIndex
+pub mod AtChild
+pub mod Place
+pub mod Insert
+pub mod SetState
+pub mod RemoveWalk
+pub mod Pair
+pub mod Rebalance
+pub mod Remove
+pub mod RemoveState
+pub mod Room
+pub mod Runs
+pub mod Corollaries
