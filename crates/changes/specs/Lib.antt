@@ -1,0 +1,4 @@
+pub mod Records
+pub mod Fit
+pub mod RunAt
+pub mod Mirror
