@@ -1,5 +1,5 @@
--- What the edits make of any node, whatever its arrays hold; a proof device. On the node of a chain they are the edits of
--- specs/Edit.antt: proofs/EditLaws.antt. Assumes nothing.
+-- What the edits make of any node, whatever its arrays hold: their contracts cite it. On the node of a chain they are the edits
+-- of specs/Edit.antt, which is what callers use: proofs/EditLaws.antt. Assumes nothing.
 use mathlib.Core.List.{List, [], _∷_, _++_}
 use mathlib.Core.Bool.{Bool, true, false}
 use Prim.Native.Nat.{ℕ, zero, suc, _+_, _*_, _-_}

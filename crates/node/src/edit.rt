@@ -387,7 +387,7 @@ impl Node {
     }
 
     // A separator at i and a child at j, where there is room.
-    fn shift_from(self, i: usize, j: usize, sep: Separator, child: Child) -> Node
+    fn shift_from(mut self, i: usize, j: usize, sep: Separator, child: Child) -> Node
         ensures { λ r. ⌜ r ≡ opened self i j sep child ⌝ }
     {
         let count = self.count;
@@ -398,13 +398,12 @@ impl Node {
         let values = open_values(self.values, i, sep.value);
         let lens = open_lens(self.lens, i, sep.len);
         let keys = open_keys(&self.keys, i, &sep.key);
-        Node {
-            count: count + 1,
-            children: children,
-            values: values,
-            lens: lens,
-            keys: keys,
-        }
+        self.count = count + 1;
+        self.children = children;
+        self.values = values;
+        self.lens = lens;
+        self.keys = keys;
+        self
     }
 
     // A separator at an index and the child right of it; where there is no room or no such index, nothing changes.
@@ -430,7 +429,7 @@ impl Node {
     }
 
     // Without the separator at i and the child at j, where there is a separator.
-    fn remove_from(self, i: usize, j: usize) -> Node
+    fn remove_from(mut self, i: usize, j: usize) -> Node
         ensures { λ r. ⌜ r ≡ closed self i j ⌝ }
     {
         let count = self.count;
@@ -441,13 +440,12 @@ impl Node {
         let values = close_values(self.values, i);
         let lens = close_lens(self.lens, i);
         let keys = close_keys(&self.keys, i);
-        Node {
-            count: count - 1,
-            children: children,
-            values: values,
-            lens: lens,
-            keys: keys,
-        }
+        self.count = count - 1;
+        self.children = children;
+        self.values = values;
+        self.lens = lens;
+        self.keys = keys;
+        self
     }
 
     // The separator at an index and the child right of it go; where there is no such index, nothing changes.
@@ -510,34 +508,34 @@ impl Node {
     }
 
     // A full node with a separator at an index and the child right of it, as two nodes of four and the one between.
-    pub fn split(self, i: Index, sep: Separator, child: Child) -> Halves
+    pub fn split(mut self, i: Index, sep: Separator, child: Child) -> Halves
         ensures { λ r. ⌜ r ≡ splitAt self (i .0) sep child ⌝ }
     {
         let at = i.0;
         if at < 4 {
-            let left = self.keep(3).insert_at(i, sep, child);
             let middle = self.separator(Index(3));
             let right = self.rest(4);
+            self = self.keep(3).insert_at(i, sep, child);
             return Halves {
-                left: left,
+                left: self,
                 middle: middle,
                 right: right,
             };
         }
         if 4 < at {
-            let left = self.keep(4);
             let middle = self.separator(Index(4));
             let right = self.rest(5).insert_at(Index(at - 5), sep, child);
+            self = self.keep(4);
             return Halves {
-                left: left,
+                left: self,
                 middle: middle,
                 right: right,
             };
         }
-        let left = self.keep(4);
         let right = self.rest(4).set_child(Index(0), child);
+        self = self.keep(4);
         Halves {
-            left: left,
+            left: self,
             middle: sep,
             right: right,
         }

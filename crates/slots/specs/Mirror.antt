@@ -1,5 +1,6 @@
--- What the functions of this crate read and leave, with a node's contents as a chain. A proof device: the code's own words
--- are in Code, and the two are tied by laws. Assumes nothing.
+-- What the functions of this crate read and leave, with a node's contents as a chain. The contracts of `is_slot`, `take_slot`,
+-- `free_slot` and `set_root` cite it; reading and writing a node are said of the code's structs in Code, tied to this by laws.
+-- Assumes nothing.
 use mathlib.Core.List.{List, []}
 use mathlib.Core.Bool.{Bool, cond, _&&_}
 use mathlib.Core.Option.{Option, none, some}

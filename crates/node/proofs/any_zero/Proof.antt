@@ -1,3 +1,4 @@
+-- `node::any_zero` meets its contract. The loop: what is left to look at decides. Assumes nothing.
 use Prim.Native.Nat.{_≤_, _-_}
 use borrow.Author.Tests.{eq-eqb, ne-eqb}
 use Rattle.node.specs.Layout.{valueOf, isNone}

@@ -1,3 +1,4 @@
+-- `node::is_long_size` meets its contract. Assumes nothing.
 use borrow.Author.Tests.{le-leb, lt-leb}
 use mathlib.Core.Path.{sym}
 use native.Mathlib.Omega.{arith}

@@ -1,3 +1,4 @@
+-- `node::key` meets its contract: the part lies within the bytes, since a key that was found does. Assumes nothing.
 use mathlib.Core.Path.{refl}
 use Rattle.node.proofs.ReadLaws.{count-few, ends-within, key-part, no-key}
 use native.Mathlib.Omega.{arith}

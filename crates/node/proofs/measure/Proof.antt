@@ -1,3 +1,4 @@
+-- `node::measure` meets its contract. The loop: the lengths that are left are added to those added already. Assumes nothing.
 use Prim.Native.Nat.{ℕ, _+_, _*_, _≤_, _<_, _-_}
 use mathlib.Core.Path.{_≡_, _∙_}
 use lib.ListN.{drop, getD}

@@ -1,3 +1,4 @@
+-- `node::read` meets its contract. The loop: the keys that are left, copied behind those copied already, make the whole. Assumes nothing.
 use Prim.Native.Nat.{ℕ, _≤_, _-_}
 use mathlib.Core.Path.{_≡_, sym, ap, _∙_}
 use lib.ListN.{length, replicate, length-replicate}

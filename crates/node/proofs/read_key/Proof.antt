@@ -1,3 +1,4 @@
+-- `node::read_key` meets its contract. Assumes nothing.
 use Rattle.node.proofs.ReadLaws.{key-1, key-2, key-3, key-4}
 use native.Mathlib.Omega.{arith}
 use borrow.Author.Needs.{needs}

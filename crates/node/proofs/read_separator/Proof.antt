@@ -1,3 +1,4 @@
+-- `node::read_separator` meets its contract. Assumes nothing.
 use borrow.Author.Tests.{not-false}
 use Rattle.word.proofs.AtLaws.{fitted}
 use Rattle.node.proofs.ReadLaws.{head-1, head-2, head-3, head-4}

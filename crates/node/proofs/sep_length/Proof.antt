@@ -1,3 +1,4 @@
+-- `node::sep_length` meets its contract. Assumes nothing.
 use Rattle.node.proofs.EncodeLaws.{sep-short, sep-long}
 use mathlib.Core.Path.{sym}
 use native.Mathlib.Omega.{arith}

@@ -1,3 +1,4 @@
+-- `node::write` meets its contract. The loop: the first i separators stand in standard form at the front. Assumes nothing.
 use Prim.Native.Nat.{_≤_, _-_}
 use mathlib.Core.Path.{_≡_, _∙_}
 use lib.ListN.{length}

@@ -1,3 +1,4 @@
+-- `node::write_separator` meets its contract. Assumes nothing.
 use Rattle.node.proofs.WriteLaws.{sep-room, sep-room-long, put-length, put-length-long, put-1, put-2, put-3, put-4}
 use native.Mathlib.Omega.{arith}
 use borrow.Author.Needs.{needs}

@@ -1,3 +1,4 @@
+-- `node::Ending::is_accepted` meets its contract. Assumes nothing.
 use Prim.Native.Nat.{ℕ}
 use mathlib.Core.Path.{ap}
 use lib.Dec.{eqb}

@@ -1,5 +1,6 @@
 -- `node::Node::shift_from` meets its contract. Assumes nothing.
 use Rattle.node.proofs.EditCode.{shift-1, shift-2}
+use native.Mathlib.Omega.{arith}
 use borrow.Author.Needs.{needs}
 use Rattle.node.proofs.Node.shift_from.Statement.{statement}
 use Rattle.node.proofs.Node.shift_from.Tie as tie
@@ -13,6 +14,6 @@ shift-from-spec =
     (λ c κs. search needs)  -- open-values-requires
     (λ c κs. search needs)  -- open-lens-requires
     (λ c κs. search needs)  -- open-keys-requires
-    (λ c. search needs)  -- add-t18
+    (λ c. search needs)  -- add-self
     (λ c. shift-2 _ _ _ _ _ (c .before .before .before .before .before .before .before .before .before .before .before .before .if1 .left) (c .before .before .before .before .before .before .before .before .before .before .open-children .ensures) (c .before .before .before .before .before .before .before .open-values .ensures) (c .before .before .before .before .before .open-lens .ensures) (c .open-keys .ensures))  -- returns-2
     )

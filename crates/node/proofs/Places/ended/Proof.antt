@@ -1,3 +1,4 @@
+-- `node::Places::ended` meets its contract. Assumes nothing.
 use Rattle.node.proofs.ReadLaws.{ended-1, ended-2}
 use native.Mathlib.Omega.{arith}
 use borrow.Author.Needs.{needs}

@@ -1,3 +1,4 @@
+-- `node::Places::read` meets its contract. The loop: what is left to scan, filled in behind what was read, makes the whole. Assumes nothing.
 use Prim.Native.Nat.{_≤_, _-_}
 use borrow.Author.Tests.{not-false}
 use Rattle.word.proofs.AtLaws.{fitted}
