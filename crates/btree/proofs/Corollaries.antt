@@ -1,6 +1,6 @@
 -- What a batch of accepted records does to the bytes of an audited store, told on the bytes: the answer, the entries, that it is
 -- audited again, that running it again changes no byte, and two batches against the merged one.
--- Read the files of this folder in the order Natural, ZipIndex, AtChild; Place, Insert, SetState; RemoveWalk, Pair, Rebalance,
+-- Read the files of this folder in the order Natural, ZipIndex, AtChild; Place, InsertWalk, SetState; RemoveWalk, Pair, Rebalance,
 -- Remove, RemoveState; Room, Runs; or this one alone. Assumes nothing.
 use mathlib.Core.Path.{_≡_, refl, sym, ap, subst, _∙_}
 use mathlib.Core.List.{List, [], _∷_}

@@ -2,7 +2,7 @@ pub mod Natural
 pub mod ZipIndex
 pub mod AtChild
 pub mod Place
-pub mod Insert
+pub mod InsertWalk
 pub mod SetState
 pub mod RemoveWalk
 pub mod Pair
@@ -12,3 +12,11 @@ pub mod RemoveState
 pub mod Room
 pub mod Runs
 pub mod Corollaries
+pub mod ReadPlaces
+pub mod InsertCode
+pub mod RemoveCode
+pub mod RebalanceCode
+pub mod OneNodeCode
+pub mod ChangeCode
+pub mod RunCode
+pub mod RunsCode

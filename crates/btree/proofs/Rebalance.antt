@@ -166,15 +166,18 @@ module _ (n root depth : ℕ) (small : n < 2 ^ 32) (lo d : ℕ) (h4 : lo ≤ 4) 
   siblings-balance : (l : List (Tree ℕ d × Sep ℕ)) (c : Tree ℕ d) (r : List (Sep ℕ × Tree ℕ d)) → Here l c r → length (c .rest) < 4 → 1 ≤ length l + length r
       → Balanced (near (suc d) x l r (c .slot ∷ [])) l c r (tryLeft x l c r) (around d s x (mapLeft (label (suc d)) l) (mapRight (label (suc d)) r) (some (mapNode (label d) c)))
   siblings-balance [] c [] z few h = absurd (omega arith)
-  siblings-balance [] c (b ∷ r) z few h = as-near (x ∷ c .slot ∷ b .1 .slot ∷ []) [] c (b ∷ r) _ _ (λ v. omega arith) (right-balances [] c (b .0) (b .1) r z few)
+  siblings-balance [] c (b ∷ r) z few h =
+      rw (length-mapRight (label d) (c .rest), lt-leb 4 (length (c .rest)) few)
+      (as-near (x ∷ c .slot ∷ b .1 .slot ∷ []) [] c (b ∷ r) _ _ (λ v. omega arith) (right-balances [] c (b .0) (b .1) r z few))
   siblings-balance (p ∷ l) c r z few h =
       let a : Tree ℕ d = p .0 in
       let y : Sep ℕ = p .1 in
       let reads = read-at n root depth small d s fs a (z .base) (z .kids .lefts .0 .0) (λ v. omega (arith, z .once v, left-occurs (slots ℕ (suc d)) v a y l)) in
       let i : ℕ = length (a .rest) in
-      by-bool (leb 5 i)
+      rw (length-mapRight (label d) (c .rest), lt-leb 4 (length (c .rest)) few)
+      (by-bool (leb 5 i)
       (λ e. rw (reads, length-mapRight (label d) (a .rest), e) (as-near (x ∷ a .slot ∷ c .slot ∷ []) (p ∷ l) c r _ _ (λ v. omega arith) (borrows-last l a y c r (to-left l a y c r z) few (a .rest) refl (leb-true 5 i e))))
-      (λ e. rw (reads, length-mapRight (label d) (a .rest), e) (left-passes l a y c r z few (leb-false 5 i e)))
+      (λ e. rw (reads, length-mapRight (label d) (a .rest), e) (left-passes l a y c r z few (leb-false 5 i e))))
 
   -- The node is read again, and its child at the index with its siblings.
   pub rebalances : (l : List (Tree ℕ d × Sep ℕ)) (c : Tree ℕ d) (r : List (Sep ℕ × Tree ℕ d)) → Here l c r → length (c .rest) < 4 → 1 ≤ length l + length r

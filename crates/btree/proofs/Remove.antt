@@ -27,7 +27,7 @@ use Rattle.slots.specs.Mirror.{writeNode}
 use Rattle.slots.specs.Stands.{label, mapNode, mapRight, Holds, Based}
 use Rattle.slots.proofs.Framing.{put-tree}
 use Rattle.slots.specs.Code.{readNodeAt}
-use Rattle.btree.specs.RemoveMirror.{Fell, bad, fine, low, Lost, closeM, settledLow, Last, nothing, broken, last, lastAtM, removeLastM, replaceOn, takenM, removeHere, removeM}
+use Rattle.btree.specs.RemoveMirror.{Fell, bad, fine, low, Lost, closeM, settledLow, Last, nothing, broken, last, lastAtM, removeLastM, replaceOn, replaceM, takenM, removeHere, removeM}
 use Rattle.btree.proofs.Natural.{mapLeft, mapZip, plug-map, at-map, nextIs}
 use Rattle.btree.proofs.ZipIndex.{replaced-plug}
 use Rattle.btree.proofs.AtChild.{Apart, AtChild, at-child, at-after, read-at, node-apart, child-apart, node-holds, node-count, node-fits, node-read}
@@ -139,6 +139,11 @@ module _ (n root depth : ℕ) (small : n < 2 ^ 32) where
         (λ v i. put .other v (rw (plug-slot x l k q2) (omega (arith, near-occurs v d x l (y ∷ r) ws))) ∙ q .frame v (omega (arith, near-occurs v d x l (y ∷ r) ws)))
         (settles lo d t freed x l k q2 (g .out) h4 (omega arith) (omega (arith, rootLeast-le d)) b (q .tells)))
 
+  not-bad : (d x i : ℕ) (w : Sep ℕ) (s : List ℕ) (k : Kid ℕ d) (o : Fell) → Tells 4 d k o → replaceM d x i w o s ≡ replaceOn d x i w o s (readNodeAt d s x)
+  not-bad d x i w s k bad t = absurd t
+  not-bad d x i w s k fine t = refl
+  not-bad d x i w s k low t = refl
+
   -- ---- a leaf without one separator: its last, or the next
 
   leaf-last : (ws : List ℕ) (lo : ℕ) → lo ≤ 4 → (s fs : List ℕ) (x : ℕ) → ((v : ℕ) → bit (eqb v x) ≤ occurs v ws) → (l : List (Kid ℕ zero × Sep ℕ)) (a : Kid ℕ zero) (y : Sep ℕ) (c : Kid ℕ zero) (r : List (Sep ℕ × Kid ℕ zero))
@@ -213,7 +218,7 @@ module _ (n root depth : ℕ) (small : n < 2 ^ 32) where
     key-taken lo d h4 s fs x l c y r z h ws al Tr.nothing (last w g) q = absurd q
     key-taken lo d h4 s fs x l c y r z h ws al (Tr.largest w o) nothing q = absurd q
     key-taken lo d h4 s fs x l c y r z h ws al (Tr.largest w o) (broken u) q = absurd q
-    key-taken lo d h4 s fs x l c y r z h ws al (Tr.largest w o) (last v g) q = rw (q .0) (replaces lo d h4 s fs x l c o g ws al (q .2) y r w (q .1) z h)
+    key-taken lo d h4 s fs x l c y r z h ws al (Tr.largest w o) (last v g) q = rw (q .0, not-bad d x (length (mapLeft (label d) l)) w (g .store) (o .tree) (g .out) (q .2 .tells)) (replaces lo d h4 s fs x l c o g ws al (q .2) y r w (q .1) z h)
 
     removed-at : (lo d : ℕ) → lo ≤ 4 → (s fs : List ℕ) (x : ℕ) (l : List (Kid ℕ d × Sep ℕ)) (c : Kid ℕ d) (r : List (Sep ℕ × Kid ℕ d)) → AtChild n root depth d s fs x l c r
         → lo ≤ length l + length r → rootLeast d ≤ length l + length r → Shaped ℕ d c → Less n root depth (removeWalk k d c) 4 d s c fs (dereference ℕ k d c) (removeM k d s (label d c))

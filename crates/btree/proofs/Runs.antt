@@ -8,7 +8,7 @@ use Prim.Native.Nat.{ℕ, suc, _+_, _^_, _≤_, _<_}
 use lib.ListN.{length}
 use lib.Dec.{leb, isEq}
 use native.Mathlib.Omega.{arith}
-use borrow.Author.Tests.{leb-true}
+use borrow.Author.Tests.{leb-true, le-leb}
 use Rattle.word.specs.Key.{Key, cmp}
 use Rattle.tree.specs.Free.{occurs, stack}
 use Rattle.tree.specs.State.{State, slotsNeeded, Good, Store, GoodStore, withRoot}
@@ -17,14 +17,16 @@ use Rattle.tree.specs.Run.{Answer, applied, countedToo, Outcome, act, onward, r
 use Rattle.tree.specs.Run as T
 use Rattle.tree.proofs.Cases.{by-bool, by-cond}
 use Rattle.tree.proofs.StateLaws.{withRoot-good}
+use Rattle.tree.proofs.Depth.{depth-7}
 use Rattle.tree.proofs.BatchLaws.{sizes, runs-sizes}
 use Rattle.node.specs.Codec.{Fit}
-use Rattle.slots.specs.Limits.{mostSlots}
+use Rattle.slots.specs.Limits.{mostSlots, mostDepth}
 use Rattle.slots.specs.Layout.{slotAt}
 use Rattle.slots.specs.Stands.{StandsTree, Stands}
+use Rattle.slots.proofs.Building.{root-read}
 use Rattle.slots.proofs.FormatLaws.{firstRoot, firstRoot-stands}
-use Rattle.btree.specs.RunMirror.{Acted, done, noRoom, Did, ofCame, ofFell, actM, Ended, onwardM, runAllM, startM}
-use Rattle.btree.proofs.Insert.{walk}
+use Rattle.btree.specs.RunMirror.{Acted, done, noRoom, Did, ofCame, ofFell, actOn, actM, Ended, onwardM, runAllM, startM}
+use Rattle.btree.proofs.InsertWalk.{walk}
 use Rattle.btree.proofs.SetState.{set-stands}
 use Rattle.btree.proofs.RemoveWalk.{removeWalk}
 use Rattle.btree.proofs.RemoveState.{removes}
@@ -79,9 +81,9 @@ module _ (n : ℕ) (s : List ℕ) (t : State ℕ) (k : Key) (o : Option ℕ) whe
   DidAs (some u) g = Finished u g
 
 module _ (n : ℕ) (lim : n ≤ mostSlots) where
-  pub acts : (s : List ℕ) (t : State ℕ) (k : Key) (o : Option ℕ) → FitOp k o → StandsTree n s t → Good n t → DidAs n s t k o (act stack k o t) (actM s k o)
-  acts s t k none f st gd = let w = removes n s t k lim st gd in record { out = ap ofFell (w .out); stands = w .stands; good = w .good; frame = λ v q i. w .frame v q }
-  acts s t k (some v) f st gd =
+  acts-on : (s : List ℕ) (t : State ℕ) (k : Key) (o : Option ℕ) → FitOp k o → StandsTree n s t → Good n t → DidAs n s t k o (act stack k o t) (actOn s k o)
+  acts-on s t k none f st gd = let w = removes n s t k lim st gd in record { out = ap ofFell (w .out); stands = w .stands; good = w .good; frame = λ v q i. w .frame v q }
+  acts-on s t k (some v) f st gd =
       let small : n < 2 ^ 32 = omega arith in
       rw (slots-needed n small s t st gd k, has-free n small s t st gd (slotsNeeded k t))
       (by-bool (leb (slotsNeeded k t) (length (t .free)))
@@ -89,6 +91,12 @@ module _ (n : ℕ) (lim : n ≤ mostSlots) where
       let w = set-stands n lim s t (record { key = k; val = v }) f st gd (leb-true (slotsNeeded k t) (length (t .free)) q) in
       rw q (record { out = ap ofCame (w .out); stands = w .stands; good = w .good; frame = w .frame }))
       (λ q. rw q (record { out = refl; store = refl })))
+
+  pub acts : (s : List ℕ) (t : State ℕ) (k : Key) (o : Option ℕ) → FitOp k o → StandsTree n s t → Good n t → DidAs n s t k o (act stack k o t) (actM s k o)
+  unfolding actM
+  acts s t k o f st gd =
+      let small : n < 2 ^ 32 = omega arith in
+      rw (root-read n s t small st gd .depth, le-leb (t .depth) mostDepth (depth-7 n t gd lim)) (acts-on s t k o f st gd)
 
 -- ---- all runs
 

@@ -25,7 +25,7 @@ use Rattle.slots.proofs.Building.{root-read}
 use Rattle.btree.specs.Mirror.{plain, Ran, insertM, newRoot, growM, setM}
 use Rattle.btree.proofs.AtChild.{Apart}
 use Rattle.btree.proofs.Place.{Done}
-use Rattle.btree.proofs.Insert.{walk, inserted-root}
+use Rattle.btree.proofs.InsertWalk.{walk, inserted-root}
 
 module _ (n : ℕ) where
   -- the store s with the free slots fs stands for u now; slots changed only among ws and those that were taken

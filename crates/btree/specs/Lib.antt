@@ -1,3 +1,6 @@
 pub mod Mirror
 pub mod RemoveMirror
 pub mod RunMirror
+pub mod Outcome
+pub mod RemoveCode
+pub mod RunCode

@@ -76,10 +76,11 @@ module _ (d : ℕ) (s : List ℕ) (x : ℕ) where
   firstChild c [] = badly s
   firstChild c (z ∷ r) = withRight [] c (z .0) r (readNodeAt d s (z .1))
 
+  -- a child that holds 4 or more isn't low, and the code has no room to mend it
   abbrev pub around : List (ℕ × Sep ℕ) → List Step → Option (Node ℕ ℕ) → Lost
   around l r none = badly s
-  around [] r (some c) = firstChild c r
-  around (a ∷ l) r (some c) = withLeft l (a .1) c r (readNodeAt d s (a .0))
+  around [] r (some c) = cond (leb 4 (length (c .rest))) (badly s) (firstChild c r)
+  around (a ∷ l) r (some c) = cond (leb 4 (length (c .rest))) (badly s) (withLeft l (a .1) c r (readNodeAt d s (a .0)))
 
 -- the child at index i, with what stands left and right of it
 abbrev pub zipTo : ℕ → List (ℕ × Sep ℕ) → ℕ → List Step → Zip ℕ ℕ
@@ -146,6 +147,12 @@ abbrev pub replaceOn : ℕ → ℕ → ℕ → Sep ℕ → Fell → List ℕ →
 replaceOn d x i w o s none = badly s
 replaceOn d x i w o s (some m) = settledLow d x i (writeNode s (record { slot = m .slot; first = m .first; rest = replacedAt i w (m .rest) })) o
 
+-- the same after a removal below that may have gone wrong
+abbrev pub replaceM : ℕ → ℕ → ℕ → Sep ℕ → Fell → List ℕ → Lost
+replaceM d x i w bad s = badly s
+replaceM d x i w fine s = replaceOn d x i w fine s (readNodeAt d s x)
+replaceM d x i w low s = replaceOn d x i w low s (readNodeAt d s x)
+
 -- a leaf without the separator in front of r
 abbrev pub withoutNext : ℕ → List (ℕ × Sep ℕ) → ℕ → List Step → Node ℕ ℕ
 withoutNext x l c [] = plug x l c []
@@ -154,7 +161,7 @@ withoutNext x l c (y ∷ r) = plug x l (y .1) r
 -- the separator in front of z's right goes; o is what its left child gave
 abbrev pub takenM : ℕ → List ℕ → ℕ → Zip ℕ ℕ → Last → Lost
 takenM d s x z (broken t) = badly t
-takenM d s x z (last w g) = replaceOn d x (length (z .lft)) w (g .out) (g .store) (readNodeAt d (g .store) x)
+takenM d s x z (last w g) = replaceM d x (length (z .lft)) w (g .out) (g .store)
 takenM d s x z nothing = closeM s (withoutNext x (z .lft) (z .mid) (z .rgt))
 
 abbrev pub removeHere : (ℕ → Lost) → (ℕ → Last) → Key → ℕ → List ℕ → ℕ → Zip ℕ ℕ → Lost

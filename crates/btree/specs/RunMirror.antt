@@ -9,6 +9,7 @@ use Rattle.word.specs.Key.{Key}
 use Rattle.tree.specs.Map.{Sep}
 use Rattle.tree.specs.Tree.{Node, Zip, at, below}
 use Rattle.tree.specs.Batch.{Run}
+use Rattle.slots.specs.Limits.{mostDepth}
 use Rattle.slots.specs.Layout.{rootOf, depthOf, firstOf}
 use Rattle.slots.specs.Mirror.{writeNode, Took, takeSlot, setRoot}
 use Rattle.slots.specs.Code.{readNodeAt, hasFree}
@@ -60,9 +61,13 @@ abbrev pub setIf : List ℕ → Sep ℕ → Option ℕ → Did
 setIf s e none = record { out = bad; store = s }
 setIf s e (some m) = cond (hasFree m s (firstOf s)) (record { out = ofCame (setM s e .out); store = setM s e .store }) (record { out = noRoom; store = s })
 
-abbrev pub actM : List ℕ → Key → Option ℕ → Did
-actM s k none = record { out = ofFell (removeKeyM s k .out); store = removeKeyM s k .store }
-actM s k (some v) = setIf s (record { key = k; val = v }) (slotsNeededM s k)
+abbrev pub actOn : List ℕ → Key → Option ℕ → Did
+actOn s k none = record { out = ofFell (removeKeyM s k .out); store = removeKeyM s k .store }
+actOn s k (some v) = setIf s (record { key = k; val = v }) (slotsNeededM s k)
+
+-- no tree is deeper than the limit
+unfoldable pub actM : List ℕ → Key → Option ℕ → Did
+actM s k o = cond (leb (depthOf s) mostDepth) (actOn s k o) (record { out = bad; store = s })
 
 -- all runs: how it ended, the records applied, the store
 pub record Ended : Type 0 where

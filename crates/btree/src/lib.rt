@@ -1,9 +1,61 @@
-// So far the crate is mathematics, in specs/ and proofs/: what the functions that change a store will do to its bytes, and
-// that this is what crate tree says on trees. A crate has a function, and this is all of its code.
+// Changes to the tree in a store's slots.
+use node::Separator;
+use node::Slot;
+use node::Value;
 ghost use mathlib.Core.Path.{_≡_};
+ghost use Rattle.btree.specs.Outcome.{outcomeOf, isGood};
 
-pub fn one(x: u32) -> u32
-    ensures { λ r. ⌜ r ≡ x ⌝ }
-{
-    x
+pub mod change;
+pub mod insert;
+pub mod records;
+pub mod removal;
+
+// What came of a change below: the bytes are bad; done; a separator to take in with the slot right of it; fewer than 4 left.
+pub enum Came {
+    Bad,
+    Plain,
+    Split,
+    Low,
+}
+
+// How many slots a set needs, where the bytes on its way are good.
+pub enum Needed {
+    Bad,
+    Slots(u32),
+}
+
+pub struct Outcome {
+    pub came: Came,
+    pub right: Slot,
+    pub separator: Separator,
+}
+
+impl Outcome {
+    // An outcome that brings no separator.
+    pub fn of(came: Came) -> Outcome
+        ensures { λ r. ⌜ r ≡ outcomeOf came ⌝ }
+    {
+        Outcome {
+            came: came,
+            right: Slot(0),
+            separator: Separator {
+                value: Value(0),
+                len: 0,
+                key: [0u8; 288],
+            },
+        }
+    }
+
+    // Whether the change below went well.
+    pub fn is_good(self) -> bool
+        ensures { λ r. ⌜ r ≡ isGood (self .came) ⌝ }
+    {
+        let came = self.came;
+        match came {
+            Came::Bad => false,
+            Came::Plain => true,
+            Came::Split => true,
+            Came::Low => true,
+        }
+    }
 }

@@ -1,0 +1,152 @@
+// Change, insert and removal: from a node down to the leaf where the key belongs, and back up with what came of it. On the way
+// down only a node's places are read; a node is built where one is edited.
+use crate::Came;
+use crate::Outcome;
+use crate::insert::child_at;
+use crate::insert::insert_node;
+use crate::insert::set_value;
+use crate::removal::put_separator;
+use crate::removal::rebalance;
+use crate::removal::remove_end;
+use crate::removal::remove_here;
+use node::Child;
+use node::Index;
+use node::Separator;
+use node::Slot;
+use node::Value;
+ghost use Prim.Native.Nat.{suc};
+ghost use Rattle.btree.specs.RemoveMirror.{removeLastM};
+ghost use Rattle.btree.specs.Outcome.{Settles, Replaces, Lasts, Changes, Inserts, Removes};
+
+// What the node of a depth makes of what came of its child at index i.
+fn settle(store: &mut [u8], child: Child, depth: u32, i: Index, below: Outcome) -> Outcome
+    ensures { λ r. ⌜ Settles depth (now (store .entry)) (child .0) (i .0) below r (now (store .exit)) ⌝ }
+{
+    let came = below.came;
+    match came {
+        Came::Bad => Outcome::of(Came::Bad),
+        Came::Plain => Outcome::of(Came::Plain),
+        Came::Split => {
+            let right = below.right.0;
+            let sep = below.separator;
+            insert_node(store, child, depth, i, sep, Child(right as u64))
+        }
+        Came::Low => rebalance(store, child, depth, i),
+    }
+}
+
+// The largest entry below takes the place of the separator at index i.
+fn replace(store: &mut [u8], child: Child, depth: u32, i: Index, last: Outcome) -> Outcome
+    ensures { λ r. ⌜ Replaces depth (now (store .entry)) (child .0) (i .0) last r (now (store .exit)) ⌝ }
+{
+    if !last.is_good() {
+        return Outcome::of(Came::Bad);
+    }
+    let sep = last.separator;
+    if !put_separator(store, child, depth, i, sep) {
+        return Outcome::of(Came::Bad);
+    }
+    settle(store, child, depth, i, last)
+}
+
+// "Taking the largest key goes down by itself until depth is 0."
+fn remove_last(store: &mut [u8], child: Child, depth: u32) -> Outcome
+    ensures { λ r. ⌜ Lasts (removeLastM (suc depth) (now (store .entry)) (child .0)) r (now (store .exit)) ⌝ }
+{
+    let places = slots::read_places_at(store, child, depth);
+    let ending = places.ending;
+    if !ending.is_accepted() {
+        return Outcome::of(Came::Bad);
+    }
+    if depth == 0 {
+        return remove_end(store, child);
+    }
+    let n = places.count;
+    let children = places.children;
+    let below = remove_last(store, child_at(children, Index(n)), depth - 1);
+    let sep = below.separator;
+    let settled = settle(store, child, depth, Index(n), below);
+    let came = settled.came;
+    Outcome {
+        came: came,
+        right: Slot(0),
+        separator: sep,
+    }
+}
+
+pub fn change(
+    store: &mut [u8],
+    child: Child,
+    depth: u32,
+    set: bool,
+    key: &[u8],
+    value: Value,
+) -> Outcome
+    ensures { λ r. ⌜ Changes set depth (now (store .entry)) (child .0) (now (key .entry)) (value .0) r (now (store .exit)) ⌝ }
+{
+    if set {
+        return insert(store, child, depth, key, value);
+    }
+    on_existing(store, child, depth, key)
+}
+
+// "Set, present: value replaced. Set, absent: into the leaf."
+fn insert(store: &mut [u8], child: Child, depth: u32, key: &[u8], value: Value) -> Outcome
+    ensures { λ r. ⌜ Inserts depth (now (store .entry)) (child .0) (now (key .entry)) (value .0) r (now (store .exit)) ⌝ }
+{
+    let places = slots::read_places_at(store, child, depth);
+    let ending = places.ending;
+    if !ending.is_accepted() {
+        return Outcome::of(Came::Bad);
+    }
+    let found = places.position(slots::node_bytes(store, child), key, false);
+    if found.at {
+        return set_value(store, child, depth, found.index, value);
+    }
+    if depth == 0 {
+        return insert_node(
+            store,
+            child,
+            depth,
+            found.index,
+            Separator::new(key, value),
+            Child(0),
+        );
+    }
+    let children = places.children;
+    let below = change(
+        store,
+        child_at(children, found.index),
+        depth - 1,
+        true,
+        key,
+        value,
+    );
+    settle(store, child, depth, found.index, below)
+}
+
+// "Dereference, present: removed; in an inner node the largest key of the left child takes its place. Absent: nothing."
+fn on_existing(store: &mut [u8], child: Child, depth: u32, key: &[u8]) -> Outcome
+    ensures { λ r. ⌜ Removes depth (now (store .entry)) (child .0) (now (key .entry)) r (now (store .exit)) ⌝ }
+{
+    let places = slots::read_places_at(store, child, depth);
+    let ending = places.ending;
+    if !ending.is_accepted() {
+        return Outcome::of(Came::Bad);
+    }
+    let found = places.position(slots::node_bytes(store, child), key, false);
+    let children = places.children;
+    let next = child_at(children, found.index);
+    if !found.at {
+        if depth == 0 {
+            return Outcome::of(Came::Plain);
+        }
+        let below = change(store, next, depth - 1, false, key, Value(0));
+        return settle(store, child, depth, found.index, below);
+    }
+    if depth == 0 {
+        return remove_here(store, child, found.index);
+    }
+    let last = remove_last(store, next, depth - 1);
+    replace(store, child, depth, found.index, last)
+}
