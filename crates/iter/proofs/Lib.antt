@@ -1,2 +1,4 @@
 pub mod Walks
+pub mod CursorLaws
 pub mod Theorems
+pub mod CodeLaws

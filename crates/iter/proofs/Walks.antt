@@ -1,15 +1,15 @@
 -- On an audited store the walks over bytes are the tree's walks: lookup is the map's, each step is the map's, and steps one
 -- after another give the entries ahead of the cursor, or behind it. Assumes nothing.
-use mathlib.Core.Path.{_≡_, refl, sym, ap, _∙_}
+use mathlib.Core.Path.{_≡_, refl, ap, _∙_}
 use mathlib.Core.List.{List, [], _∷_, _++_}
-use mathlib.Core.Bool.{Bool, true, false, cond}
+use mathlib.Core.Bool.{Bool, false, cond}
 use mathlib.Core.Option.{Option, none, some}
 use Prim.Native.Nat.{ℕ, zero, suc, _+_, _-_, _^_, _≤_, _<_}
 use lib.ListN.{length, take, replicate}
 use lib.Seq.{take-at}
 use lib.Dec.{ltb, eqb}
 use native.Mathlib.Omega.{arith}
-use borrow.Author.Tests.{ltb-false, le-ltb, eq-eqb, ne-eqb}
+use borrow.Author.Tests.{le-ltb, eq-eqb, ne-eqb}
 use Rattle.word.specs.Pick.{pick, pickT, pickF}
 use Rattle.word.specs.Key.{Key}
 use Rattle.tree.specs.Map.{Sep, get}
@@ -23,27 +23,27 @@ use Rattle.tree.proofs.Cases.{by-bool, by-cond}
 use Rattle.tree.proofs.Zipper.{seek-all, seek-read}
 use Rattle.tree.proofs.Slots.{occurs-append}
 use Rattle.tree.proofs.WalkLaws.{lookup-get, forward-next, backward-previous}
-use Rattle.node.specs.Codec.{Step, FitAll, longestKey}
+use Rattle.node.specs.Codec.{FitAll, longestKey}
 use Rattle.node.specs.Layout.{childOf, valueOf, padded}
 use Rattle.slots.specs.Limits.{mostDepth}
-use Rattle.slots.specs.Layout.{isStore, rootOf, depthOf}
+use Rattle.slots.specs.Layout.{rootOf, depthOf}
 use Rattle.slots.specs.Stands.{label, mapRight, mapNode, Holds, Based, StandsTree, Stands, Audited}
 use Rattle.slots.specs.Code.{misfits, whenFit, readNodeAt}
 use Rattle.slots.proofs.Framing.{Within, first-within, read-tree}
 use Rattle.slots.proofs.StoreLaws.{based-root}
 use Rattle.slots.proofs.Building.{root-read}
 use Rattle.slots.proofs.CodeLaws.{RestFits, chain-fits}
-use Rattle.slots.proofs.AuditedLaws.{storeRoot, storeDepth, audited-root, audited-depth, audited-store, audited-shallow, audited-rising}
+use Rattle.slots.proofs.AuditedLaws.{audited-store, audited-shallow, audited-rising}
 use Rattle.iter.specs.declared.Place.{Place}
 use Rattle.iter.specs.declared.Place.the-variants.{Start, End, At, Seeked}
 use Rattle.iter.specs.declared.Cursor.{Cursor}
 use Rattle.iter.specs.declared.Step as answer
 use Rattle.iter.specs.declared.Step.the-variants as step
 use Rattle.iter.specs.declared.Stepped.{Stepped}
-use Rattle.iter.specs.declared.Lookup.{Lookup}
-use Rattle.iter.specs.declared.Lookup.the-variants.{Found, Absent}
-use Rattle.iter.specs.Walk.{foundHere, lookOn, lookFrom, lookupOf, Walked, walked, onForward, onBackward, forwardFrom, backwardFrom}
-use Rattle.iter.specs.Cursor.{cursorWith, isLong, keyOf, passedForward, passedBackward, movedTo, steppedOf, walkForward, walkBackward, forwardOf, backwardOf}
+use Rattle.iter.specs.declared.LookedUp.{LookedUp}
+use Rattle.iter.specs.declared.LookedUp.the-variants.{Found, Absent}
+use Rattle.iter.specs.Walk.{foundHere, lookFrom, lookupOf, Walked, walked, forwardFrom, backwardFrom}
+use Rattle.iter.specs.Cursor.{cursorWith, isLong, keyOf, movedTo, steppedOf, walkForward, walkBackward, forwardOf, backwardOf}
 
 -- ---- a map over a node's children commutes with the walk along it
 
@@ -73,11 +73,11 @@ module _ {A C D : Type 0} (f : C → D) where
 -- ---- lookup's answer
 
 -- the map's value as lookup answers it
-abbrev pub answered : Option ℕ → Lookup
+abbrev pub answered : Option ℕ → LookedUp
 answered none = Absent
 answered (some v) = Found (valueOf v)
 
-here-look : {C : Type 0} (f : C → ℕ) (k : Key) (b : Lookup) (o : Option ℕ) (r : List (Sep ℕ × C)) → b ≡ answered o → foundHere k b (mapRight f r) ≡ answered (lookHere k o r)
+here-look : {C : Type 0} (f : C → ℕ) (k : Key) (b : LookedUp) (o : Option ℕ) (r : List (Sep ℕ × C)) → b ≡ answered o → foundHere k b (mapRight f r) ≡ answered (lookHere k o r)
 here-look f k b o [] e = e
 here-look f k b o (x ∷ r) e = by-bool (same k (x .0)) (λ t. rw t) (λ t. rw t e)
 
@@ -263,7 +263,7 @@ backwardsOf zero s c = []
 backwardsOf (suc n) s c = let r : Stepped = backwardOf s c in met (r .step) (r .cursor) (backwardsOf n s (r .cursor))
 
 -- the key that a cursor was moved to
-own-key : (k : Key) → take (length k) (padded 288 0 k) ≡ k
+pub own-key : (k : Key) → take (length k) (padded 288 0 k) ≡ k
 unfolding padded
 own-key k = take-at k (replicate (288 - length k) 0) (length k) refl
 

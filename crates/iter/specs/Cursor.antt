@@ -1,9 +1,9 @@
 -- 01, "Lookup and cursor": the cursor, seeking, and a step from every place. Assumes nothing.
 use mathlib.Core.List.{List, []}
 use mathlib.Core.Bool.{Bool, true, false}
-use mathlib.Core.Option.{Option, none, some}
+use mathlib.Core.Option.{none, some}
 use Prim.Native.Nat.{ℕ, suc}
-use lib.ListN.{length, take, replicate}
+use lib.ListN.{length, take}
 use lib.Dec.{ltb, eqb}
 use Rattle.word.specs.Pick.{pick}
 use Rattle.word.specs.Key.{Key}
@@ -35,7 +35,11 @@ soughtOf k =
     (record { accepted = false; cursor = cursorWith Start [] })
     (record { accepted = true; cursor = cursorWith (Seeked (length k)) k })
 
--- 01's numbers
+-- 01's number of a seek
+abbrev pub soughtNumber : Sought → ℕ
+soughtNumber r = pick (r .accepted) 0 4
+
+-- 01's numbers of a step
 abbrev pub stepNumber : Step → ℕ
 stepNumber (Entry v) = 0
 stepNumber Nothing = 0

@@ -1,2 +1,3 @@
 pub mod Walk
 pub mod Cursor
+pub mod Mirror

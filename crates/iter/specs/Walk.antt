@@ -1,6 +1,6 @@
 -- 01, "Lookup and cursor": the walks on any bytes. "A walk reads at most depth+1 nodes." Assumes nothing.
 use mathlib.Core.List.{List, [], _∷_}
-use mathlib.Core.Bool.{Bool, true, false, cond}
+use mathlib.Core.Bool.{Bool, cond}
 use mathlib.Core.Option.{Option, none, some}
 use Prim.Native.Nat.{ℕ, zero, suc}
 use lib.ListN.{length}
@@ -15,13 +15,13 @@ use Rattle.node.specs.Layout.{valueOf}
 use Rattle.slots.specs.Limits.{mostDepth}
 use Rattle.slots.specs.Layout.{isStore, rootOf, depthOf}
 use Rattle.slots.specs.Code.{readNodeAt}
-use Rattle.iter.specs.declared.Lookup.{Lookup}
-use Rattle.iter.specs.declared.Lookup.the-variants.{Found, Absent, NotStore, LongKey, Bad}
+use Rattle.iter.specs.declared.LookedUp.{LookedUp}
+use Rattle.iter.specs.declared.LookedUp.the-variants.{Found, Absent, NotStore, LongKey, Bad}
 
 -- ---- lookup
 
 -- 01's numbers; "'Absent' is its own answer."
-abbrev pub lookupNumber : Lookup → ℕ
+abbrev pub lookupNumber : LookedUp → ℕ
 lookupNumber (Found v) = 0
 lookupNumber Absent = 0
 lookupNumber NotStore = 1
@@ -29,23 +29,23 @@ lookupNumber LongKey = 4
 lookupNumber Bad = 8
 
 -- the next separator's value if its key is k, else what is found below
-abbrev pub foundHere : Key → Lookup → List Step → Lookup
+abbrev pub foundHere : Key → LookedUp → List Step → LookedUp
 foundHere k below [] = below
 foundHere k below (x ∷ r) = cond (same k (x .0)) (Found (valueOf (x .0 .val))) below
 
-abbrev pub lookOn : Key → (ℕ → Lookup) → Option (Node ℕ ℕ) → Lookup
+abbrev pub lookOn : Key → (ℕ → LookedUp) → Option (Node ℕ ℕ) → LookedUp
 lookOn k rec none = Bad
 lookOn k rec (some m) = let z : Zip ℕ ℕ = at (below k) m in foundHere k (rec (z .mid)) (z .rgt)
 
 -- "`position` compares separators from index 0." d levels are left; slot x stands on the highest of them. "A node read must
 -- have a slot number 1 to count, a length of 8 to 2,480, readable bytes and children that fit its depth (none at 0; separators
 -- plus one above); else 8."
-unfoldable pub lookFrom : Key → ℕ → List ℕ → ℕ → Lookup
+unfoldable pub lookFrom : Key → ℕ → List ℕ → ℕ → LookedUp
 lookFrom k zero s x = Absent
 lookFrom k (suc d) s x = lookOn k (lookFrom k d s) (readNodeAt d s x)
 
 -- "Lookup and cursor: 1, 4, 8." "A depth above 7 is 8, root or not; otherwise no root means absent"
-unfoldable pub lookupOf : List ℕ → Key → Lookup
+unfoldable pub lookupOf : List ℕ → Key → LookedUp
 lookupOf s k =
     pick (isStore s)
     (pick (ltb longestKey (length k)) LongKey

@@ -20,11 +20,12 @@ use Rattle.slots.specs.Limits.{mostDepth}
 use Rattle.slots.specs.Layout.{header, rootOf, depthOf, countOf, firstOf, isStore}
 use Rattle.slots.specs.Stands.{label, mapRight, mapNode, InSlot, Holds, Links, Based, Stands, Audited}
 use Rattle.slots.specs.Entries.{build, entriesOf, entriesO}
+use Rattle.slots.specs.Reached.{reachedFrom, reached}
 use Rattle.slots.proofs.HeaderLaws.{Sized, sized, header-is}
 use Rattle.slots.proofs.Framing.{occurs-itself, length-mapRight}
 use Rattle.slots.proofs.Building.{holds-build}
 use Rattle.slots.proofs.AuditedLaws.{storeFree, audited-store, audited-shallow, audited-keys, audited-first}
-use Rattle.slots.proofs.Reached.{reachedFrom, reached, EveryBelow, EveryFrom, Every, ChildAt, NodeAt, audited-every, audited-once, audited-links, bare-depth}
+use Rattle.slots.proofs.Reached.{EveryBelow, EveryFrom, Every, ChildAt, NodeAt, audited-every, audited-once, audited-links, bare-depth}
 
 pub record Passes (s : List ℕ) : Type 0 where
   -- no refusal 1

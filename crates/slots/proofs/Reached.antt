@@ -1,12 +1,13 @@
--- What is reached from the root, told on the bytes alone, without a tree; and what an audited store has there. Assumes nothing.
+-- What holds of every node reached from the root, told on the bytes alone, without a tree; and what an audited store has there.
+-- Assumes nothing.
 use mathlib.Core.Path.{_≡_, refl, sym, ap, subst, _∙_}
 use mathlib.Core.Logic.{_⊎_, inl, inr}
 use mathlib.Core.List.{List, [], _∷_}
-use mathlib.Core.Bool.{true, cond}
+use mathlib.Core.Bool.{true}
 use mathlib.Core.Option.{Option, none, some}
 use Prim.Native.Nat.{ℕ, zero, suc, _+_, _^_, _≤_, _<_}
 use lib.ListN.{length}
-use lib.Dec.{leb, eqb}
+use lib.Dec.{leb}
 use native.Mathlib.Omega.{arith}
 use borrow.Author.Tests.{le-leb, leb-true, leb-false, ne-eqb}
 use Rattle.tree.specs.Map.{Sep}
@@ -22,26 +23,13 @@ use Rattle.slots.specs.Limits.{leastNode, mostNode}
 use Rattle.slots.specs.Layout.{used, idle, slotAt, rootOf, depthOf, countOf}
 use Rattle.slots.specs.Mirror.{isSlot, nodeBytes, readNode}
 use Rattle.slots.specs.Stands.{label, mapRight, mapNode, InSlot, Holds, Links, Based, Stands, Audited}
+use Rattle.slots.specs.Reached.{reachedFrom, reached}
 use Rattle.slots.proofs.StoreLaws.{based-slot, read-bytes}
 use Rattle.slots.proofs.Framing.{Within, first-within, firstFree-within, Each, each-none, each-cons, each-node, length-mapRight, read-tree}
 use Rattle.slots.proofs.Building.{root-read}
 use Rattle.slots.proofs.AuditedLaws.{storeRoot, storeDepth, storeUsed, storeFree, stands-based, good-once, good-bare, audited-count, audited-root, audited-depth}
 
--- ---- reached slots and nodes
-
--- what f reaches from the children of a node that could be read
-abbrev pub below : (ℕ → List ℕ) → Option (Node ℕ ℕ) → List ℕ
-below f none = []
-below f (some m) = read none-of f m
-
--- the slots reached in d levels of nodes from slot x down, each as often as it is reached; at depth 0 no child is followed
-abbrev pub reachedFrom : ℕ → List ℕ → ℕ → List ℕ
-reachedFrom zero s x = []
-reachedFrom (suc d) s x = x ∷ below (reachedFrom d s) (readNode s x)
-
--- from the root; none without one
-unfoldable pub reached : List ℕ → List ℕ
-reached s = cond (eqb (rootOf s) 0) [] (reachedFrom (suc (depthOf s)) s (rootOf s))
+-- ---- reached nodes
 
 -- Q of the children of a node that could be read
 abbrev pub EveryBelow : (ℕ → Type 0) → Option (Node ℕ ℕ) → Type 0

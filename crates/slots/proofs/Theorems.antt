@@ -1,6 +1,6 @@
--- The main theorems of this crate, each beneath the sentence that it carries. Besides the definitions of specs/ a reader needs
--- the short ones of Reached: `reached s`, the slots reached from the root, told on the bytes alone; `Every P s`, P of the depth
--- and the slot of every node reached; `UsedSlot`, `FreeSlot`, `NodeAt` and its parts; `Within` and `Each` (Framing), `Passes`
+-- The main theorems of this crate, each beneath the sentence that it carries. Besides the definitions of specs/ (`reached s`: the
+-- slots reached from the root, told on the bytes alone) a reader needs the short ones of Reached: `Every P s`, P of the depth and
+-- the slot of every node reached; `UsedSlot`, `FreeSlot`, `NodeAt` and its parts; `Within` and `Each` (Framing), `Passes`
 -- (Paragraph) and `firstRoot` (FormatLaws). Assumes nothing.
 use mathlib.Core.Path.{_≡_}
 use mathlib.Core.Logic.{_⊎_}
@@ -22,12 +22,13 @@ use Rattle.slots.specs.Layout.{rootOf, depthOf, countOf, firstOf, isStor
 use Rattle.slots.specs.Stands.{label, Holds, Links, Based, Stands, Audited}
 use Rattle.slots.specs.Entries.{build, entriesOf}
 use Rattle.slots.specs.Format.{fresh}
+use Rattle.slots.specs.Reached.{reached}
 use Rattle.slots.proofs.Framing.{Within, Each}
 use Rattle.slots.proofs.Building.{IfSome, HeldAt, build-holds, holds-build, entries-are}
 use Rattle.slots.proofs.Unique.{one-state, one-store}
 use Rattle.slots.proofs.FormatLaws.{length-fresh, fresh-stands, fresh-audited, firstRoot, firstRoot-stands}
 use Rattle.slots.proofs.AuditedLaws.{storeFree, audited-count, audited-first, root-in, first-in, audited-store, audited-shallow, audited-entries, audited-rising, audited-one, audited-bytes, firstRoot-audited, firstRoot-entries}
-use Rattle.slots.proofs.Reached.{reached, Every, every-map, UsedSlot, FreeSlot, NodeAt, StandardNode, ChildrenFit, SeparatorsFit, audited-every, audited-once, audited-used, audited-links, audited-free, audited-layout, bare-depth, bare-all, node-standard}
+use Rattle.slots.proofs.Reached.{Every, every-map, UsedSlot, FreeSlot, NodeAt, StandardNode, ChildrenFit, SeparatorsFit, audited-every, audited-once, audited-used, audited-links, audited-free, audited-layout, bare-depth, bare-all, node-standard}
 use Rattle.slots.proofs.Paragraph.{Passes, audited-passes, passes-audited}
 
 -- ---- 01's audit paragraph: what an audited store has

@@ -5,3 +5,4 @@ pub mod Stands
 pub mod Entries
 pub mod Format
 pub mod Code
+pub mod Reached

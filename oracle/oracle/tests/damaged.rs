@@ -2,7 +2,8 @@
 //! same one. (Where 01 says 8 the original may say anything, and need not end.)
 
 use oracle::history::{batch, Keys, Phase, Style};
-use oracle::model::bytes::{Bytes, From};
+use oracle::model::bytes::{Bytes, From, Way};
+use oracle::model::cursor::Place;
 use oracle::nodes::{any_node, damaged, Damage, Lengths};
 use oracle::random::Random;
 use oracle::report::report;
@@ -166,7 +167,15 @@ fn look_up(store: &Bytes, theirs: &Original, key: &[u8]) -> Outcome {
 
 fn step(store: &Bytes, theirs: &Original, from: &From) -> Outcome {
     let has_depth_only = store.root == 0 && store.depth > 0;
-    match store.step(from) {
+    let (place, way) = match from {
+        From::Start => (Place::Start, Way::Forward),
+        From::Seeked(key) => (Place::Seeked(key.to_vec()), Way::Forward),
+        From::End => (Place::End, Way::Backward),
+    };
+    let stepped = store.step(from);
+    let found = stepped.as_ref().map(|(found, _)| found.clone());
+    assert_eq!(store.walk(&place, way), found.map_err(|number| *number));
+    match stepped {
         Err(_) => Outcome::Refused,
         // D4.
         Ok((_, true)) => Outcome::Known,

@@ -2,6 +2,8 @@
 //! FORMATS.md tells, on our reading of 01, gives the stored answers.
 
 use oracle::lists;
+use oracle::model::buffer;
+use oracle::model::bytes::{Bytes, Way};
 use oracle::model::codec;
 use oracle::model::cursor::{Cursor, Place};
 use oracle::model::store::{Answer, Store};
@@ -153,6 +155,94 @@ fn node_writings_replay() {
         "node_writings_replay",
         &[("nodes", count), ("of them dropping children", dropping)],
     );
+}
+
+#[test]
+fn walks_replay() {
+    let file = stored(lists::walks::FILE);
+    let blocks = blocks(&file);
+    let stores = blocks.len();
+    let mut numbers = [0; 9];
+    for mut block in blocks {
+        let mut buffer = vec![0; block.word()];
+        for _ in 0..block.short() {
+            let at = block.word();
+            let bytes = block.part();
+            buffer[at..at + bytes.len()].copy_from_slice(bytes);
+        }
+        ask_all(&mut block, &buffer, &mut numbers);
+        block.end();
+    }
+    report(
+        "walks_replay",
+        &[
+            ("stores", stores),
+            ("questions", numbers.iter().sum()),
+            ("answers 1", numbers[1]),
+            ("answers 4", numbers[4]),
+            ("answers 8", numbers[8]),
+        ],
+    );
+}
+
+fn ask_all(block: &mut Front, buffer: &[u8], numbers: &mut [usize; 9]) {
+    let store = buffer::store(buffer);
+    let mut place = Place::Start;
+    for _ in 0..block.short() {
+        let question = block.byte();
+        let number = block.byte();
+        let value = block.long();
+        let key = block.part();
+        numbers[if question == 1 { 0 } else { number }] += 1;
+        match question {
+            0 => {
+                let found = store.as_ref().map_err(|n| *n).and_then(|s| s.lookup(key));
+                let told = answered(number, (value != 0).then_some(value));
+                assert_eq!(found, told);
+            }
+            1 => place = put(number, value, key),
+            2 if number == 0 => place = Place::Seeked(key.to_vec()),
+            2 => assert!(number == 4 && key.len() > codec::LONGEST_KEY),
+            _ => {
+                let told = (value != 0).then(|| (key.to_vec(), value));
+                let told = answered(number, told);
+                assert_eq!(step(&store, &mut place, question == 3), told);
+            }
+        }
+    }
+}
+
+fn answered<T>(number: usize, found: Option<T>) -> Result<Option<T>, u8> {
+    if number == 0 {
+        Ok(found)
+    } else {
+        Err(number as u8)
+    }
+}
+
+/// A place as the list has it: marks stand behind the key.
+fn put(kind: usize, length: u64, key: &[u8]) -> Place {
+    let mut array = key.to_vec();
+    array.resize(codec::LONGEST_KEY + 1, lists::walks::MARK);
+    array.truncate(length.min(array.len() as u64) as usize);
+    match kind {
+        0 => Place::Start,
+        1 => Place::End,
+        2 => Place::At(array),
+        _ => Place::Seeked(array),
+    }
+}
+
+fn step(store: &Result<Bytes, u8>, place: &mut Place, ahead: bool) -> Result<Option<Pair>, u8> {
+    let (way, ends) = match ahead {
+        true => (Way::Forward, Place::End),
+        false => (Way::Backward, Place::Start),
+    };
+    let found = store.as_ref().map_err(|n| *n)?.walk(place, way)?;
+    *place = found
+        .as_ref()
+        .map_or(ends, |(key, _)| Place::At(key.clone()));
+    Ok(found)
 }
 
 #[test]

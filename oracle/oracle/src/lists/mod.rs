@@ -4,9 +4,11 @@
 use std::path::{Path, PathBuf};
 
 pub mod batches;
+mod damages;
 mod frame;
 pub mod node_readings;
 pub mod node_writings;
+pub mod walks;
 
 /// Where a list is stored: beside the program that replays it, if there is
 /// one.
@@ -14,6 +16,7 @@ pub fn stored_at(file: &str) -> PathBuf {
     let project = Path::new(env!("CARGO_MANIFEST_DIR")).join("../..");
     match file {
         batches::FILE => project.join("oracle/data").join(file),
+        walks::FILE => project.join("crates/replay_walks/data").join(file),
         _ => project.join("crates/replay_nodes/data").join(file),
     }
 }
@@ -26,10 +29,11 @@ pub struct List {
 }
 
 /// All lists.
-pub fn all() -> [List; 3] {
+pub fn all() -> [List; 4] {
     [
         node_readings::list(),
         node_writings::list(),
         batches::list(),
+        walks::list(),
     ]
 }

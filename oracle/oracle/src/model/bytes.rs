@@ -1,6 +1,7 @@
 //! Walks over node bytes of any kind, as 01 tells lookup and cursor steps.
 
 use super::codec::{self, Reading, KEY_TOO_LONG, LONGEST_KEY};
+use super::cursor::Place;
 use original::btree::glue::Pair;
 use std::collections::BTreeMap;
 
@@ -42,6 +43,40 @@ impl Read<'_> {
     fn position(&self, key: &[u8]) -> usize {
         let found = (0..self.count()).find(|at| self.key(*at) >= key);
         found.unwrap_or(self.count())
+    }
+
+    /// "The first index whose key is above the place (forward At, backward
+    /// Seeked) or not below it (forward Seeked, backward At), 0 for forward
+    /// Start, the separator count for backward End or if none is such."
+    fn index(&self, place: &Place, way: Way) -> usize {
+        let first = |is_such: &dyn Fn(&[u8]) -> bool| {
+            let found = (0..self.count()).find(|at| is_such(self.key(*at)));
+            found.unwrap_or(self.count())
+        };
+        match (place, way) {
+            (Place::Start, _) => 0,
+            (Place::End, _) => self.count(),
+            (Place::At(key), Way::Forward) | (Place::Seeked(key), Way::Backward) => {
+                first(&|other| other > &key[..])
+            }
+            (Place::Seeked(key), Way::Forward) | (Place::At(key), Way::Backward) => {
+                first(&|other| other >= &key[..])
+            }
+        }
+    }
+}
+
+/// Where a step goes.
+#[derive(Clone, Copy, PartialEq, Eq)]
+pub enum Way {
+    Forward,
+    Backward,
+}
+
+fn length(place: &Place) -> usize {
+    match place {
+        Place::Start | Place::End => 0,
+        Place::At(key) | Place::Seeked(key) => key.len(),
     }
 }
 
@@ -126,5 +161,34 @@ impl Bytes {
             slot = read.node.children[index];
         }
         Ok((found, met))
+    }
+
+    /// A step from any place: "the last candidate is the answer".
+    pub fn walk(&self, place: &Place, way: Way) -> Result<Option<Pair>, u8> {
+        if length(place) > LONGEST_KEY {
+            return Err(KEY_TOO_LONG);
+        }
+        let ends = match way {
+            Way::Forward => Place::End,
+            Way::Backward => Place::Start,
+        };
+        let mut last = None;
+        if !self.has_root()? || *place == ends {
+            return Ok(last);
+        }
+        let mut slot = self.root;
+        for depth in (0..=self.depth).rev() {
+            let read = self.read(slot, depth)?;
+            let index = read.index(place, way);
+            let candidate = match way {
+                Way::Forward => Some(index),
+                Way::Backward => index.checked_sub(1),
+            };
+            if let Some(at) = candidate.filter(|at| *at < read.count()) {
+                last = Some(read.pair(at));
+            }
+            slot = read.node.children[index];
+        }
+        Ok(last)
     }
 }

@@ -2,6 +2,7 @@
 //! original: node bytes, the tree with its slots, lookup and cursor. It is
 //! plain and slow on purpose.
 
+pub mod buffer;
 pub mod bytes;
 pub mod codec;
 pub mod cursor;

@@ -1,0 +1,12 @@
+pub mod ChainLaws
+pub mod VisitLaws
+pub mod WalkLaws
+pub mod MarkLaws
+pub mod WordLaws
+pub mod Theorems
+pub mod CodeLaws
+pub mod NodeLaws
+pub mod ReadCode
+pub mod ChainCode
+pub mod VisitCode
+pub mod WholeCode

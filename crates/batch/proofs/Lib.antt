@@ -1,0 +1,3 @@
+pub mod BatchCode
+pub mod Theorems
+pub mod Nights
