@@ -1,0 +1,3 @@
+pub mod FaceCode
+pub mod Theorems
+pub mod Nights

@@ -1,0 +1,10 @@
+pub mod CutLaws
+pub mod DigitLaws
+pub mod HexLaws
+pub mod PutLaws
+pub mod LinesLaws
+pub mod WriteLaws
+pub mod Bounds
+pub mod Same
+pub mod ReadBack
+pub mod Table

@@ -1,0 +1,5 @@
+pub mod Digits
+pub mod Lines
+pub mod Parses
+pub mod Written
+pub mod Mirror
