@@ -4,7 +4,7 @@ use mathlib.Core.Path.{_≡_, refl, sym, ap, _∙_}
 use mathlib.Core.List.{List, [], _∷_, _++_, append-assoc, append-nil}
 use mathlib.Core.Bool.{true, _&&_}
 use Prim.Native.Nat.{ℕ, zero, suc, max, _+_, _*_, _/_, _%_, _^_, _≤_, _<_, compare, Ordering·lt, Ordering·gt}
-use lib.ListN.{length, getD, set, drop, length-append, drop-of-length-le}
+use lib.ListN.{length, getD, set, drop, length-append, drop-of-length-le, take-append-drop}
 use lib.Seq.{drop-cons}
 use lib.Dec.{eqb}
 use borrow.Author.Tests.{ne-eqb}
@@ -14,12 +14,12 @@ use native.Mathlib.Omega.{arith}
 use Rattle.word.specs.declared.Order.the-variants.{Less, Equal, Greater}
 use Rattle.word.specs.Key.{cmp, pick3, orderOf}
 use Rattle.word.specs.Part.{part, over}
-use Rattle.word.specs.Num.{le, un, zeros, allZero}
+use Rattle.word.specs.Num.{le, un, Bytes, zeros, allZero}
 use Rattle.word.specs.At.{readAt, writeAt, copyAt, clearAt, zeroAt}
-use Rattle.word.proofs.KeyOrder.{num-lt, num-gt, num-refl}
-use Rattle.word.proofs.PartLaws.{length-part, length-part-cut, length-over, getD-part, part-none, part-more, over-none, over-beside, set-over}
+use Rattle.word.proofs.KeyOrder.{num-lt, num-gt, num-refl, cmp-front}
+use Rattle.word.proofs.PartLaws.{length-part, length-part-cut, length-over, getD-part, part-none, part-more, part-add, part-part, over-none, over-beside, set-over}
 use Rattle.word.proofs.NumLaws.{length-zeros, zeros-append, allZero-append, allZero-one, length-le}
-use Rattle.word.proofs.AtLaws.{readAt-in, writeAt-in, copyAt-in, clearAt-in, zeroAt-in}
+use Rattle.word.proofs.AtLaws.{readAt-in, part-same, writeAt-in, copyAt-in, clearAt-in, zeroAt-in}
 
 -- a byte stored behind those that are stored already
 over-more : (s : List ℕ) (a : ℕ) (b : List ℕ) (i v : ℕ) → length b ≡ i → a + i < length s → set (over s a b) (a + i) v ≡ over s a (b ++ (v ∷ []))
@@ -123,6 +123,31 @@ read-straight s at b bs h p r =
     let e : at + 0 ≡ at = omega arith in
     let q = rw e at (reads-part s at 0 (b ∷ bs) (omega arith) (rw e p, r)) in
     joined-un b 256 bs ∙ ap un q ∙ sym (readAt-in (suc (length bs)) s at h)
+
+-- the loop of `same_front`: i bytes are the same
+module _ (a b : List ℕ) (from : ℕ) where
+  pub front-start : part a 0 0 ≡ part b from 0
+  front-start = part-none a 0 ∙ sym (part-none b from)
+
+  pub front-turn : (i : ℕ) {v w : ℕ} → Bytes a → Bytes b → i + 8 ≤ length a → (from + i) + 8 ≤ length b → part a 0 i ≡ part b from i
+      → v ≡ readAt 8 a i → w ≡ readAt 8 b (from + i) → v ≡ w → part a 0 (i + 8) ≡ part b from (i + 8)
+  front-turn i p q h g same e f t =
+      let z : 0 + i ≡ i = omega arith in
+      rw (part-add a 0 i 8, part-add b from i 8, z, same, part-same 8 a b i (from + i) p q h g (sym e ∙ t ∙ f))
+
+-- `compare_part` begins behind what `same_front` found
+front-rest : (s : List ℕ) (i : ℕ) → s ≡ part s 0 i ++ drop i s
+unfolding part
+front-rest s i = sym (take-append-drop i s)
+
+pub compare-behind : (key s : List ℕ) (at n i : ℕ) → i ≤ n → part key 0 i ≡ part s at i → cmp key (part s at n) ≡ cmp (drop i key) (drop i (part s at n))
+compare-behind key s at n i h e =
+    let p : List ℕ = part s at n in
+    let z : at + 0 ≡ at = omega arith in
+    let f : part p 0 i ≡ part key 0 i = part-part s at n 0 i (omega arith) ∙ rw z (sym e) in
+    ap (λ (k : List ℕ). cmp k p) (front-rest key i)
+    ∙ ap (λ (k : List ℕ). cmp (part key 0 i ++ drop i key) k) (front-rest p i ∙ ap (λ (k : List ℕ). k ++ drop i p) f)
+    ∙ cmp-front (part key 0 i) (drop i key) (drop i p)
 
 -- the ways through `compare_part`, where the first i bytes are the same
 module _ (key s : List ℕ) (at n i : ℕ) (same : cmp key (part s at n) ≡ cmp (drop i key) (drop i (part s at n))) where

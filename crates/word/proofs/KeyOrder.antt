@@ -2,7 +2,7 @@
 -- nothing.
 use mathlib.Core.Path.{_≡_, refl, ap}
 use mathlib.Core.Logic.{_⊎_, inl, inr}
-use mathlib.Core.List.{[], _∷_}
+use mathlib.Core.List.{[], _∷_, _++_}
 use Prim.Native.Nat.{ℕ, zero, suc, _<_, compare, Ordering, Ordering·lt, Ordering·eq, Ordering·gt, compare·zero-zero, compare·zero-suc, compare·suc-zero, compare·suc-suc}
 use native.Mathlib.Omega.{arith}
 use Rattle.word.specs.Key.{Key, cmp, pick3, Lt}
@@ -73,6 +73,11 @@ cmp-eq (a ∷ xs) (b ∷ ys) e = go (cmp-eq xs ys) (compare a b) refl e
     go ih Ordering·lt p q = cc
     go ih Ordering·eq p q = cc (num-eq a b p, ih q)
     go ih Ordering·gt p q = cc
+
+-- a common front doesn't count
+pub cmp-front : (p a b : Key) → cmp (p ++ a) (p ++ b) ≡ cmp a b
+cmp-front [] a b = refl
+cmp-front (x ∷ p) a b = rw num-refl (cmp-front p a b)
 
 trans3 : (o₁ o₂ o₃ r₁ r₂ r₃ : Ordering) → (o₁ ≡ Ordering·lt → o₂ ≡ Ordering·lt → o₃ ≡ Ordering·lt) → (o₁ ≡ Ordering·eq → o₃ ≡ o₂) → (o₂ ≡ Ordering·eq → o₃ ≡ o₁)
     → (r₁ ≡ Ordering·lt → r₂ ≡ Ordering·lt → r₃ ≡ Ordering·lt)

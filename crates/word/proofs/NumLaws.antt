@@ -32,6 +32,10 @@ le-un (b ∷ s) h =
     let d : (b + un s * 256) / 256 ≡ un s = omega arith in
     rw (m, d, le-un s (h .1))
 
+-- as many bytes that stand for the same number are the same
+pub un-same : (a b : List ℕ) → Bytes a → Bytes b → length a ≡ length b → un a ≡ un b → a ≡ b
+un-same a b p q l e = sym (le-un a p) ∙ rw (l, e) (le-un b q)
+
 pub bytes-le : (k x : ℕ) → Bytes (le k x)
 unfolding le
 bytes-le zero x = tt

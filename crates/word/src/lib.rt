@@ -1,7 +1,7 @@
 // Numbers in little-endian at a place of a slice, copies into a part, zero tests, and the order of keys. All is total:
 // what doesn't lie within the slice reads as 0, is not written, and is not all zero.
 ghost use mathlib.Core.Path.{_≡_};
-ghost use Prim.Native.Nat.{min, _-_, _<_};
+ghost use Prim.Native.Nat.{min, _-_, _<_, _≤_};
 ghost use Rattle.word.specs.Key.{cmp, orderOf};
 ghost use Rattle.word.specs.Part.{part};
 ghost use Rattle.word.specs.At.{fitsIn, readAt, writeAt, copyAt, clearAt, zeroAt};
@@ -156,12 +156,31 @@ fn within(len: usize, at: usize, n: usize) -> usize
     n
 }
 
+// How many bytes, eight at a time and at most n, are surely the same at the front of a and in b from `from` on. Keys share
+// long prefixes, and eight bytes are one load.
+fn same_front(a: &[u8], b: &[u8], from: usize, n: usize) -> usize
+    ensures { λ r. ⌜ (r ≤ n) × (part (now (a .entry)) 0 r ≡ part (now (b .entry)) from r) ⌝ }
+{
+    if !fits(b.len(), from, n) {
+        return 0;
+    }
+    let most = within(a.len(), 0, n);
+    let mut i = 0;
+    while 8 <= most - i {
+        if read_u64(a, i) != read_u64(b, from + i) {
+            return i;
+        }
+        i += 8;
+    }
+    i
+}
+
 // The order of a key and the n bytes of s from `at` on, cut at the end of s.
 pub fn compare_part(key: &[u8], s: &[u8], at: usize, n: usize) -> Order
     ensures { λ r. ⌜ r ≡ orderOf (cmp (now (key .entry)) (part (now (s .entry)) at n)) ⌝ }
 {
     let len = within(s.len(), at, n);
-    let mut i = 0;
+    let mut i = same_front(key, s, at, len);
     while i < key.len() {
         if len <= i {
             return Order::Greater;
