@@ -1,0 +1,2 @@
+pub mod FaceLaws
+pub mod Theorems

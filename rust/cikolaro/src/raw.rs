@@ -1,0 +1,191 @@
+//! The exported functions as they are, with 01's numbers: for callers that lend marks and cursors themselves. include/cikolaro.h says
+//! what each answers and leaves. They ask nothing of a caller but what Rust's references say, so no test stands before a call.
+
+use crate::LONGEST_KEY;
+
+extern "C" {
+    fn cikolaro_format(store: *mut u8, store_len: usize, count: u32) -> u32;
+    fn cikolaro_audit(
+        store: *const u8,
+        store_len: usize,
+        marks: *mut u64,
+        marks_len: usize,
+        reached: *mut usize,
+    ) -> u32;
+    fn cikolaro_batch(
+        store: *mut u8,
+        store_len: usize,
+        marks: *mut u64,
+        marks_len: usize,
+        records: *const u8,
+        records_len: usize,
+        applied: *mut usize,
+    ) -> u32;
+    fn cikolaro_lookup(
+        store: *const u8,
+        store_len: usize,
+        key: *const u8,
+        key_len: usize,
+        present: *mut u32,
+        value: *mut u64,
+    ) -> u32;
+    fn cikolaro_seek(key: *const u8, key_len: usize, kind: *mut u32, length: *mut usize, held: *mut u8) -> u32;
+    fn cikolaro_forward(
+        store: *const u8,
+        store_len: usize,
+        kind: *mut u32,
+        length: *mut usize,
+        held: *mut u8,
+        present: *mut u32,
+        value: *mut u64,
+    ) -> u32;
+    fn cikolaro_backward(
+        store: *const u8,
+        store_len: usize,
+        kind: *mut u32,
+        length: *mut usize,
+        held: *mut u8,
+        present: *mut u32,
+        value: *mut u64,
+    ) -> u32;
+    fn cikolaro_node_read(bytes: *const u8, bytes_len: usize, count: *mut usize) -> u32;
+    fn cikolaro_node_child(bytes: *const u8, bytes_len: usize, index: usize) -> u64;
+    fn cikolaro_node_separator(
+        bytes: *const u8,
+        bytes_len: usize,
+        index: usize,
+        start: *mut usize,
+        length: *mut usize,
+        value: *mut u64,
+    ) -> u32;
+}
+
+/// A cursor as it is lent: kind 0 Start, 1 End, 2 At, 3 Seeked.
+#[derive(Clone, Copy, Debug, PartialEq, Eq)]
+pub struct Lent {
+    pub kind: u32,
+    pub length: usize,
+    pub key: [u8; LONGEST_KEY],
+}
+
+/// A number, and the value where there is one.
+#[derive(Clone, Copy, Debug, PartialEq, Eq)]
+pub struct Answer {
+    pub number: u32,
+    pub value: Option<u64>,
+}
+
+fn answer(number: u32, present: u32, value: u64) -> Answer {
+    Answer { number, value: (present == 1).then_some(value) }
+}
+
+pub fn format(store: &mut [u8], count: u32) -> u32 {
+    // SAFETY: the slice is borrowed for writing for the call.
+    unsafe { cikolaro_format(store.as_mut_ptr(), store.len(), count) }
+}
+
+/// The number, and how many slots are reached.
+pub fn audit(store: &[u8], marks: &mut [u64]) -> (u32, usize) {
+    let mut reached = 0;
+    // SAFETY: the store is borrowed for reading, the marks and the count for writing, for the call.
+    let number = unsafe { cikolaro_audit(store.as_ptr(), store.len(), marks.as_mut_ptr(), marks.len(), &mut reached) };
+    (number, reached)
+}
+
+/// The number, and how many records are applied.
+pub fn batch(store: &mut [u8], marks: &mut [u64], records: &[u8]) -> (u32, usize) {
+    let mut applied = 0;
+    // SAFETY: store, marks and count are borrowed for writing, the records for reading, for the call.
+    let number = unsafe {
+        cikolaro_batch(
+            store.as_mut_ptr(),
+            store.len(),
+            marks.as_mut_ptr(),
+            marks.len(),
+            records.as_ptr(),
+            records.len(),
+            &mut applied,
+        )
+    };
+    (number, applied)
+}
+
+pub fn lookup(store: &[u8], key: &[u8]) -> Answer {
+    let (mut present, mut value) = (0, 0);
+    // SAFETY: both slices are borrowed for reading, the two numbers for writing, for the call.
+    let number =
+        unsafe { cikolaro_lookup(store.as_ptr(), store.len(), key.as_ptr(), key.len(), &mut present, &mut value) };
+    answer(number, present, value)
+}
+
+pub fn seek(key: &[u8], cursor: &mut Lent) -> u32 {
+    // SAFETY: the key is borrowed for reading, the cursor's three fields for writing, for the call; the array has 288 bytes.
+    unsafe { cikolaro_seek(key.as_ptr(), key.len(), &mut cursor.kind, &mut cursor.length, cursor.key.as_mut_ptr()) }
+}
+
+pub fn forward(store: &[u8], cursor: &mut Lent) -> Answer {
+    let (mut present, mut value) = (0, 0);
+    // SAFETY: the store is borrowed for reading, the cursor's three fields and the two numbers for writing, for the call; the
+    // array has 288 bytes.
+    let number = unsafe {
+        cikolaro_forward(
+            store.as_ptr(),
+            store.len(),
+            &mut cursor.kind,
+            &mut cursor.length,
+            cursor.key.as_mut_ptr(),
+            &mut present,
+            &mut value,
+        )
+    };
+    answer(number, present, value)
+}
+
+pub fn backward(store: &[u8], cursor: &mut Lent) -> Answer {
+    let (mut present, mut value) = (0, 0);
+    // SAFETY: as for `forward`.
+    let number = unsafe {
+        cikolaro_backward(
+            store.as_ptr(),
+            store.len(),
+            &mut cursor.kind,
+            &mut cursor.length,
+            cursor.key.as_mut_ptr(),
+            &mut present,
+            &mut value,
+        )
+    };
+    answer(number, present, value)
+}
+
+/// The number, and how many separators the node has.
+pub fn node_read(bytes: &[u8]) -> (u32, usize) {
+    let mut count = 0;
+    // SAFETY: the bytes are borrowed for reading, the count for writing, for the call.
+    let number = unsafe { cikolaro_node_read(bytes.as_ptr(), bytes.len(), &mut count) };
+    (number, count)
+}
+
+/// The child at an index, 0 where there is none.
+pub fn node_child(bytes: &[u8], index: usize) -> u64 {
+    // SAFETY: the bytes are borrowed for reading for the call.
+    unsafe { cikolaro_node_child(bytes.as_ptr(), bytes.len(), index) }
+}
+
+/// The key and the value of the separator at an index; an empty key and 0 where there is none. The key is a part of the bytes.
+///
+/// ```
+/// use cikolaro::raw;
+///
+/// // Child 0, value 5, a key of two bytes, child 0.
+/// let node = [&[0; 8][..], &5u64.to_le_bytes(), &[2, 0x61, 0x62], &[0; 8]].concat();
+/// assert_eq!(raw::node_read(&node), (0, 1));
+/// assert_eq!(raw::node_separator(&node, 0), (&b"ab"[..], 5));
+/// assert_eq!(raw::node_read(&[]), (11, 0));
+/// ```
+pub fn node_separator(bytes: &[u8], index: usize) -> (&[u8], u64) {
+    let (mut start, mut length, mut value) = (0, 0, 0);
+    // SAFETY: the bytes are borrowed for reading, the three numbers for writing, for the call.
+    unsafe { cikolaro_node_separator(bytes.as_ptr(), bytes.len(), index, &mut start, &mut length, &mut value) };
+    (&bytes[start..start + length], value)
+}

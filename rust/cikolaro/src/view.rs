@@ -1,0 +1,100 @@
+//! The tree of an audited store, to look at. This is Rust and not proved; it reads only what the proved audit has passed.
+
+use crate::{Refusal, Store, HEADER_SIZE, SLOT_SIZE};
+
+/// A node and what stands below it.
+#[derive(Clone, Debug, PartialEq, Eq)]
+pub struct Node {
+    pub slot: u32,
+    pub separators: Vec<(Vec<u8>, u64)>,
+    /// Empty in a leaf; else one more than separators.
+    pub children: Vec<Node>,
+}
+
+/// A store's tree and its free slots.
+#[derive(Clone, Debug, PartialEq, Eq)]
+pub struct Tree {
+    pub count: u32,
+    pub depth: u32,
+    pub root: Option<Node>,
+    /// In the order in which they are taken.
+    pub free: Vec<u32>,
+}
+
+impl Node {
+    /// How many nodes there are from here down.
+    pub fn nodes(&self) -> usize {
+        1 + self.children.iter().map(Node::nodes).sum::<usize>()
+    }
+
+    /// Calls f with each node and how far it is below this one, parents first.
+    pub fn visit(&self, below: usize, f: &mut impl FnMut(&Node, usize)) {
+        f(self, below);
+        for child in &self.children {
+            child.visit(below + 1, f);
+        }
+    }
+}
+
+/// The tree of a store that passes the audit.
+///
+/// ```
+/// use cikolaro::{view, Batch, Store};
+///
+/// let mut store = Store::new(4)?;
+/// let mut batch = Batch::new();
+/// for key in 1..=9 {
+///     batch.set([key], 1);
+/// }
+/// store.apply(&batch)?;
+/// let tree = view::tree(&store)?;
+/// let root = tree.root.unwrap();
+/// assert_eq!((root.slot, root.children[0].slot, root.children[1].slot), (3, 1, 2));
+/// assert_eq!(tree.free, [4]);
+/// # Ok::<(), cikolaro::Error>(())
+/// ```
+pub fn tree<B: AsRef<[u8]>>(store: &Store<B>) -> Result<Tree, Refusal> {
+    store.audit()?;
+    let bytes = store.bytes();
+    let root = number(bytes, 0, 8) as u32;
+    let mut free = Vec::new();
+    let mut slot = number(bytes, 16, 4) as u32;
+    while slot != 0 {
+        free.push(slot);
+        slot = number(bytes, start(slot) + 4, 4) as u32;
+    }
+    Ok(Tree {
+        count: store.count(),
+        depth: number(bytes, 8, 4) as u32,
+        root: (root != 0).then(|| node(bytes, root)),
+        free,
+    })
+}
+
+fn number(bytes: &[u8], at: usize, width: usize) -> u64 {
+    bytes[at..at + width].iter().rev().fold(0, |n, &b| n << 8 | u64::from(b))
+}
+
+fn start(slot: u32) -> usize {
+    HEADER_SIZE + SLOT_SIZE * (slot as usize - 1)
+}
+
+fn node(bytes: &[u8], slot: u32) -> Node {
+    let from = start(slot) + 4;
+    let node_bytes = &bytes[from..from + number(bytes, start(slot), 4) as usize];
+    let mut children = vec![number(node_bytes, 0, 8) as u32];
+    let mut separators = Vec::new();
+    let mut at = 8;
+    while at < node_bytes.len() {
+        let value = number(node_bytes, at, 8);
+        let (length, key) = match node_bytes[at + 8] {
+            255 => (number(node_bytes, at + 9, 4) as usize, at + 13),
+            short => (usize::from(short), at + 9),
+        };
+        separators.push((node_bytes[key..key + length].to_vec(), value));
+        children.push(number(node_bytes, key + length, 8) as u32);
+        at = key + length + 8;
+    }
+    children.retain(|&child| child != 0);
+    Node { slot, separators, children: children.into_iter().map(|child| node(bytes, child)).collect() }
+}
