@@ -15,7 +15,7 @@ pub mod walks;
 pub fn stored_at(file: &str) -> PathBuf {
     let project = Path::new(env!("CARGO_MANIFEST_DIR")).join("../..");
     match file {
-        batches::FILE => project.join("oracle/data").join(file),
+        batches::FILE => project.join("crates/replay_batches/data").join(file),
         walks::FILE => project.join("crates/replay_walks/data").join(file),
         _ => project.join("crates/replay_nodes/data").join(file),
     }
