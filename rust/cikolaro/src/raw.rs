@@ -123,12 +123,15 @@ pub fn seek(key: &[u8], cursor: &mut Lent) -> u32 {
     unsafe { cikolaro_seek(key.as_ptr(), key.len(), &mut cursor.kind, &mut cursor.length, cursor.key.as_mut_ptr()) }
 }
 
-pub fn forward(store: &[u8], cursor: &mut Lent) -> Answer {
+/// What `cikolaro_forward` and `cikolaro_backward` are called with.
+type StepBy = unsafe extern "C" fn(*const u8, usize, *mut u32, *mut usize, *mut u8, *mut u32, *mut u64) -> u32;
+
+fn step(by: StepBy, store: &[u8], cursor: &mut Lent) -> Answer {
     let (mut present, mut value) = (0, 0);
     // SAFETY: the store is borrowed for reading, the cursor's three fields and the two numbers for writing, for the call; the
     // array has 288 bytes.
     let number = unsafe {
-        cikolaro_forward(
+        by(
             store.as_ptr(),
             store.len(),
             &mut cursor.kind,
@@ -141,21 +144,12 @@ pub fn forward(store: &[u8], cursor: &mut Lent) -> Answer {
     answer(number, present, value)
 }
 
+pub fn forward(store: &[u8], cursor: &mut Lent) -> Answer {
+    step(cikolaro_forward, store, cursor)
+}
+
 pub fn backward(store: &[u8], cursor: &mut Lent) -> Answer {
-    let (mut present, mut value) = (0, 0);
-    // SAFETY: as for `forward`.
-    let number = unsafe {
-        cikolaro_backward(
-            store.as_ptr(),
-            store.len(),
-            &mut cursor.kind,
-            &mut cursor.length,
-            cursor.key.as_mut_ptr(),
-            &mut present,
-            &mut value,
-        )
-    };
-    answer(number, present, value)
+    step(cikolaro_backward, store, cursor)
 }
 
 /// The number, and how many separators the node has.
