@@ -1,5 +1,5 @@
 //! Stores for the audit: small ones, good and damaged, for the program
-//! crates/audits, and full ones for the time; and 01's audit read anew.
+//! crates/audits, and full ones for bench/compare; and 01's audit read anew.
 
 pub mod bases;
 pub mod files;

@@ -1,22 +1,23 @@
 //! The proved audit, as it is exported, beside our reading of 01. It needs the
-//! archive of `rt staticlib bench_audit`.
-
-#[path = "../src/exported.rs"]
-mod exported;
+//! archive of `rt staticlib capi`.
 
 use audit_bench::grown::{self, Filling, Shape};
 use audit_bench::layout::{put_u32, HEADER, SLOT};
 use audit_bench::random::Random;
 use audit_bench::stores::{self, Case, MARK};
 use audit_bench::{full, model};
+use cikolaro::raw;
 
 /// Both answers are the same; the number.
 fn agrees(buffer: &[u8], words: usize) -> u32 {
     let before = vec![MARK; words];
     let mut marks = before.clone();
-    let (number, reached) = exported::audit(buffer, &mut marks);
+    let (number, reached) = raw::audit(buffer, &mut marks);
     let expected = model::audit(buffer, &before);
-    assert_eq!((number, reached), (expected.number, expected.reached));
+    assert_eq!(
+        (number, reached as u64),
+        (expected.number, expected.reached)
+    );
     assert!(marks == expected.marks);
     number
 }

@@ -52,6 +52,35 @@ impl Change {
     }
 }
 
+/// A batch in the original's own form.
+pub struct Changes(BTreeChangeSet);
+
+impl Changes {
+    pub fn new(changes: &[Change]) -> Result<Self> {
+        let mut set = BTreeChangeSet::new(COLUMN);
+        for change in changes {
+            set.push(operation(change))?;
+        }
+        Ok(Changes(set))
+    }
+}
+
+/// A node in the original's own form.
+#[derive(Clone)]
+pub struct Held(Node);
+
+impl Held {
+    /// What the original does with the bytes of a node that it has fetched.
+    pub fn read(bytes: Vec<u8>) -> Result<Self> {
+        Node::from_encoded(bytes).map(Held)
+    }
+
+    /// How many separators it has.
+    pub fn count(&self) -> usize {
+        self.0.last_separator_index().map_or(0, |last| last + 1)
+    }
+}
+
 /// Reads node bytes with the original's `from_encoded`.
 pub fn read_node(bytes: &[u8]) -> Result<NodeParts> {
     Node::from_encoded(bytes.to_vec()).map(|node| parts(&node))
@@ -125,13 +154,26 @@ impl Original {
 
     /// Runs a batch as the original does: sorted by key, then from the front.
     pub fn batch(&self, changes: &[Change]) -> Result<()> {
-        let mut set = BTreeChangeSet::new(COLUMN);
-        for change in changes {
-            set.push(operation(change))?;
-        }
+        self.run(Changes::new(changes)?)
+    }
+
+    /// The same, for changes that are in the original's form already.
+    pub fn run(&self, mut changes: Changes) -> Result<()> {
         let id = self.log.read().last_record_id(COLUMN) + 1;
-        set.write_plan(&self.table, &mut LogWriter::new(id), &mut 0)?;
+        let mut log = LogWriter::new(id);
+        changes.0.write_plan(&self.table, &mut log, &mut 0)?;
         self.log.write().set_last_record_id(id);
+        Ok(())
+    }
+
+    /// Writes a node over the one of a number, as the original does.
+    pub fn write(&self, number: u64, mut node: Held) -> Result<()> {
+        node.0.changed = true;
+        let mut log = LogWriter::new(0);
+        let at = Some(Address::from_u64(number));
+        let tables = self.table.tables.read();
+        let tables = self.table.locked(&tables);
+        BTreeTable::write_node_plan(tables, node.0, &mut log, at)?;
         Ok(())
     }
 
