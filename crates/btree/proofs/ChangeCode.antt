@@ -5,7 +5,7 @@ use mathlib.Core.List.{List, [], _∷_}
 use mathlib.Core.Bool.{Bool, true, false, cond, not}
 use mathlib.Core.Option.{Option, none, some}
 use Prim.Native.Nat.{ℕ, zero, suc, _+_, _-_, _^_, _≤_, _<_}
-use lib.ListN.{length, take, getD}
+use lib.ListN.{length, take}
 use lib.Seq.{take-all}
 use native.Mathlib.Omega.{arith}
 use borrow.Author.Tests.{not-true, not-false}
@@ -14,15 +14,13 @@ use Rattle.word.specs.Num.{Bytes}
 use Rattle.tree.specs.Map.{Sep}
 use Rattle.tree.specs.Tree.{Node, Zip, at, below, always, plug}
 use Rattle.tree.proofs.Zipper.{seek-plug}
-use Rattle.node.specs.declared.Child.{Child}
-use Rattle.node.specs.declared.Places.{Places}
 use Rattle.node.specs.declared.Separator.{Separator}
-use Rattle.node.specs.declared.edit.Found.{Found}
-use Rattle.node.specs.Codec.{Step, longestKey, isAccepted, Fit}
-use Rattle.node.specs.Layout.{childOf}
+use Rattle.node.specs.Codec.{Step, longestKey, Fit}
 use Rattle.node.specs.Edit.{separatorOf}
-use Rattle.node.specs.EditMirror.{positionOf}
-use Rattle.slots.specs.Code.{bytesIn, firstIn, restIn, nodeIn, placesAt, readNodeAt}
+use Rattle.slots.specs.Code.{firstIn, restIn, nodeIn, readNodeAt}
+use Rattle.node.specs.declared.search.Turn.the-variants as turn
+use Rattle.node.specs.declared.search.Sight.{Sight}
+use Rattle.slots.specs.Search.{sightAt}
 use Rattle.btree.specs.declared.Came as code
 use Rattle.btree.specs.declared.Came.the-variants.{Bad, Plain, Split, Low}
 use Rattle.btree.specs.declared.Outcome.{Outcome}
@@ -30,8 +28,9 @@ use Rattle.btree.specs.Mirror as M
 use Rattle.btree.specs.Mirror.{insertNodeM, setValueM, settled, insertHere, onNode, insertM}
 use Rattle.btree.specs.RemoveMirror as R
 use Rattle.btree.specs.RemoveMirror.{closeM, rebalanceM, settledLow, removeLastM, lastAtM, replaceOn, replaceM, withoutNext, takenM, removeM}
-use Rattle.btree.specs.Outcome.{outcomeWith, noSep, outcomeOf, isGood, ofCame, FitCame, Makes, cameOf, ofFell, Does, Lasts, RemovesHere, RemovesEnd, PutsIn, Settles, FitUnless, Replaces, Inserts, Removes, Changes}
-use Rattle.btree.proofs.ReadPlaces.{not-read, was-read, at-is, index-is, child-is, last-index, last-child}
+use Rattle.btree.specs.Outcome.{outcomeWith, noSep, outcomeOf, isGood, isPlain, ofCame, FitCame, Makes, cameOf, ofFell, Does, Lasts, RemovesHere, RemovesEnd, PutsIn, Settles, FitUnless, Replaces, Inserts, Removes, Changes}
+use Rattle.btree.proofs.ReadSight.{sight-refused, sight-read, sight-at, sight-index, sight-child}
+use Rattle.btree.proofs.ChangeSight.{sight-last-index, sight-last-child}
 
 -- ---- which outcome it is
 
@@ -184,23 +183,48 @@ module _ (d : ℕ) (s : List ℕ) (x i : ℕ) (o : Outcome) where
         go R.fine k fit = there R.fine (readNodeAt d s x) (put w (sep-of (cameOf f) w 0 e) fit) k
         go R.low k fit = there R.low (readNodeAt d s x) (put w (sep-of (cameOf f) w 0 e) fit) k
 
+-- ---- what came of the child as it came: where all is done below, all is done here
+
+module _ (d : ℕ) (s : List ℕ) (x i : ℕ) (o : Outcome) {p : Bool} (test : p ≡ isPlain (o .came)) (done : p ≡ true) where
+  came-plain : o .came ≡ Plain
+  came-plain = by-came (o .came) (sym test ∙ done)
+    where
+      by-came : (c : code.Came) → isPlain c ≡ true → c ≡ Plain
+      by-came Bad q = absurd (let k : _≡_ {A = ℕ} 0 1 = cc in omega arith)
+      by-came Plain q = refl
+      by-came Split q = absurd (let k : _≡_ {A = ℕ} 0 1 = cc in omega arith)
+      by-came Low q = absurd (let k : _≡_ {A = ℕ} 0 1 = cc in omega arith)
+
+  set-done : (g : M.Came) → o ≡ ofCame g → FitCame g → Makes (settled d x i s g) o s
+  set-done M.bad e f = other came-plain (came-of Bad noSep 0 e) (λ n. omega (arith, n))
+  set-done M.plain e f = (e, refl, tt)
+  set-done (M.split y b) e f = other came-plain (came-of Split y b e) (λ n. omega (arith, n))
+
+  lost-done : (f : R.Fell) → o ≡ ofFell f → Does (settledLow d x i s f) o s
+  lost-done R.bad e = other came-plain (came-of Bad noSep 0 e) (λ n. omega (arith, n))
+  lost-done R.fine e = (e, refl)
+  lost-done R.low e = other came-plain (came-of Low noSep 0 e) (λ n. omega (arith, n))
+
+  last-done : (y : Sep ℕ) (f : R.Fell) (t : List ℕ) → o ≡ outcomeWith (cameOf f) y 0 → s ≡ t → Fit y → Lasts (R.last y (settledLow d x i t f)) o s
+  last-done y R.bad t e q fit = other came-plain (came-of Bad y 0 e) (λ n. omega (arith, n))
+  last-done y R.fine t e q fit = (e, q, fit)
+  last-done y R.low t e q fit = other came-plain (came-of Low y 0 e) (λ n. omega (arith, n))
+
 -- one level down
 down : (d : ℕ) → (d ≡ 0 → ⊥) → suc (d - 1) ≡ d
 down zero h = absurd (h refl)
 down (suc d) h = omega arith
 
--- ---- a node read on the way down
+-- ---- the largest entry
 
-module _ (d : ℕ) (s : List ℕ) (x : ℕ) {p : Places} (read : p ≡ placesAt d s x) {b : Bool} (tested : b ≡ isAccepted (p .ending)) where
-  -- ---- the largest entry
+module _ (d : ℕ) (s : List ℕ) (x : ℕ) (key : Key) {p : Sight} (searched : p ≡ sightAt turn.Last d s x key) where
+  pub last-1 : {r : Outcome} → not (p .good) ≡ true → r ≡ outcomeOf Bad → Lasts (removeLastM (suc d) s x) r s
+  last-1 h q = rw (sight-refused turn.Last s d x key searched h) (q, refl)
 
-  pub last-1 : {r : Outcome} → not b ≡ true → r ≡ outcomeOf Bad → Lasts (removeLastM (suc d) s x) r s
-  last-1 h q = rw (not-read s d x read tested h) (q, refl)
-
-  pub last-2 : (r : Outcome) (t : List ℕ) → not b ≡ false → d ≡ 0 → RemovesEnd s x r t → Lasts (removeLastM (suc d) s x) r t
+  pub last-2 : (r : Outcome) (t : List ℕ) → not (p .good) ≡ false → d ≡ 0 → RemovesEnd s x r t → Lasts (removeLastM (suc d) s x) r t
   unfolding RemovesEnd
   last-2 r t h z q =
-      let w : readNodeAt 0 s x ≡ some (nodeIn s x) = sym (ap (λ (n : ℕ). readNodeAt n s x) z) ∙ was-read s d x read tested h in
+      let w : readNodeAt 0 s x ≡ some (nodeIn s x) = sym (ap (λ (n : ℕ). readNodeAt n s x) z) ∙ sight-read turn.Last s d x key searched h in
       subst (λ (n : ℕ). Lasts (removeLastM (suc n) s x) r t) (sym z) (rw w (q (nodeIn s x) w))
 
   abbrev withSep : Outcome → Separator → Outcome
@@ -210,12 +234,25 @@ module _ (d : ℕ) (s : List ℕ) (x : ℕ) {p : Places} (read : p ≡ placesAt 
   unfolding outcomeWith
   with-sep o e c y p q = rw (p, q)
 
-  pub last-3 : {c : Child} {o r : Outcome} {t u : List ℕ} → not b ≡ false → (d ≡ 0 → ⊥) → c ≡ getD (p .children) (p .count) (childOf 0)
-      → Lasts (removeLastM (suc (d - 1)) s (c .0)) o t → Settles d t x (p .count) o r u → Lasts (removeLastM (suc d) s x) (withSep r (o .separator)) u
-  last-3 {c} {o} {r} {t} {u} h z went l q =
+  pub last-3 : (o : Outcome) (t : List ℕ) {e : Bool} → not (p .good) ≡ false → (d ≡ 0 → ⊥) → Lasts (removeLastM (suc (d - 1)) s (p .child .0)) o t → e ≡ isPlain (o .came) → e ≡ true → Lasts (removeLastM (suc d) s x) o t
+  last-3 o t h z l test done =
       let below : Lasts (removeLastM d s (at always (nodeIn s x) .mid)) o t =
-      subst (λ (k : ℕ). Lasts (removeLastM d s k) o t) (last-child s d x read tested h went) (subst (λ (n : ℕ). Lasts (removeLastM n s (c .0)) o t) (down d z) l) in
-      rw (was-read s d x read tested h) (go (removeLastM d s (at always (nodeIn s x) .mid)) below)
+      subst (λ (j : ℕ). Lasts (removeLastM d s j) o t) (sight-last-child s d x key searched h) (subst (λ (n : ℕ). Lasts (removeLastM n s (p .child .0)) o t) (down d z) l) in
+      rw (sight-read turn.Last s d x key searched h) (go (removeLastM d s (at always (nodeIn s x) .mid)) below)
+    where
+      zip : Zip ℕ ℕ
+      zip = at always (nodeIn s x)
+
+      go : (L : R.Last) → Lasts L o t → Lasts (lastAtM d s x zip L) o t
+      go R.nothing k = absurd k
+      go (R.broken v) k = k
+      go (R.last y g) k = last-done d t x (length (zip .lft)) o test done y (g .out) (g .store) (k .0) (k .1) (k .2)
+
+  pub last-4 : {o r : Outcome} {t u : List ℕ} → not (p .good) ≡ false → (d ≡ 0 → ⊥) → Lasts (removeLastM (suc (d - 1)) s (p .child .0)) o t → Settles d t x (p .count) o r u → Lasts (removeLastM (suc d) s x) (withSep r (o .separator)) u
+  last-4 {o} {r} {t} {u} h z l q =
+      let below : Lasts (removeLastM d s (at always (nodeIn s x) .mid)) o t =
+      subst (λ (j : ℕ). Lasts (removeLastM d s j) o t) (sight-last-child s d x key searched h) (subst (λ (n : ℕ). Lasts (removeLastM n s (p .child .0)) o t) (down d z) l) in
+      rw (sight-read turn.Last s d x key searched h) (go (removeLastM d s (at always (nodeIn s x) .mid)) below)
     where
       zip : Zip ℕ ℕ
       zip = at always (nodeIn s x)
@@ -227,31 +264,35 @@ module _ (d : ℕ) (s : List ℕ) (x : ℕ) {p : Places} (read : p ≡ placesAt 
           (with-sep r (o .separator) Bad noSep (w .0) (sep-of d s x 0 o Bad noSep 0 (k .0)), w .1 ∙ k .1)
       go (R.last y g) k =
           let w : Does (settledLow d x (p .count) (g .store) (g .out)) r u = subst (λ (v : List ℕ). Does (settledLow d x (p .count) v (g .out)) r u) (k .1) (q .removed (g .out) (came-of (cameOf (g .out)) y 0 (k .0))) in
-          let w2 : Does (settledLow d x (length (zip .lft)) (g .store) (g .out)) r u = subst (λ (j : ℕ). Does (settledLow d x j (g .store) (g .out)) r u) (last-index s d x read tested h) w in
+          let w2 : Does (settledLow d x (length (zip .lft)) (g .store) (g .out)) r u = subst (λ (j : ℕ). Does (settledLow d x j (g .store) (g .out)) r u) (sight-last-index s d x key searched h) w in
           (with-sep r (o .separator) _ y (w2 .0) (sep-of d s x 0 o (cameOf (g .out)) y 0 (k .0)), w2 .1, k .2)
 
-  pub insert-1 : (k : Key) (v : ℕ) (r : Outcome) → not b ≡ true → r ≡ outcomeOf Bad → Inserts d s x k v r s
+-- ---- where a key belongs
+
+module _ (d : ℕ) (s : List ℕ) (x : ℕ) (k : Key) {p : Sight} (searched : p ≡ sightAt turn.NotBelow d s x k) where
+  pub insert-1 : (v : ℕ) (r : Outcome) → not (p .good) ≡ true → r ≡ outcomeOf Bad → Inserts d s x k v r s
   unfolding Inserts
-  insert-1 k v r h q pos short = rw (not-read s d x read tested h) (q, refl, tt)
+  insert-1 v r h q pos short = rw (sight-refused turn.NotBelow s d x k searched h) (q, refl, tt)
 
-  pub existing-1 : (k : Key) (r : Outcome) → not b ≡ true → r ≡ outcomeOf Bad → Removes d s x k r s
+  pub existing-1 : (r : Outcome) → not (p .good) ≡ true → r ≡ outcomeOf Bad → Removes d s x k r s
   unfolding Removes
-  existing-1 k r h q = rw (not-read s d x read tested h) (q, refl)
+  existing-1 r h q = rw (sight-refused turn.NotBelow s d x k searched h) (q, refl)
 
-  -- ---- where a key belongs
-
-  module _ (k : Key) (h : not b ≡ false) {bytes : List ℕ} (held : bytes ≡ bytesIn s x) {f : Found} (searched : f ≡ positionOf p bytes k false) where
+  module _ (h : not (p .good) ≡ false) where
     abbrev zip : Zip ℕ ℕ
     zip = at (below k) (nodeIn s x)
 
     there : readNodeAt d s x ≡ some (nodeIn s x)
-    there = was-read s d x read tested h
+    there = sight-read turn.NotBelow s d x k searched h
 
-    found : f .at ≡ M.isNext k (zip .rgt)
-    found = at-is s d x read tested h k held searched
+    found : p .found .at ≡ M.isNext k (zip .rgt)
+    found = sight-at s d x k searched h
 
-    index : f .index .0 ≡ length (zip .lft)
-    index = index-is s d x read tested h k held searched
+    index : p .found .index .0 ≡ length (zip .lft)
+    index = sight-index s d x k searched h
+
+    child : p .child .0 ≡ zip .mid
+    child = sight-child s d x k searched h
 
     -- ---- a set
 
@@ -259,7 +300,7 @@ module _ (d : ℕ) (s : List ℕ) (x : ℕ) {p : Places} (read : p ≡ placesAt 
       abbrev sep : Sep ℕ
       sep = record { key = k; val = v }
 
-      pub insert-2 : (r : Outcome) (t : List ℕ) → f .at ≡ true → (0 < v → Makes (setValueM (f .index .0) v x s (readNodeAt d s x)) r t) → Inserts d s x k v r t
+      pub insert-2 : (r : Outcome) (t : List ℕ) → p .found .at ≡ true → (0 < v → Makes (setValueM (p .found .index .0) v x s (readNodeAt d s x)) r t) → Inserts d s x k v r t
       unfolding Inserts
       insert-2 r t hit q pos short =
           let z : M.isNext k (zip .rgt) ≡ true = sym found ∙ hit in
@@ -271,83 +312,91 @@ module _ (d : ℕ) (s : List ℕ) (x : ℕ) {p : Places} (read : p ≡ placesAt 
       set-leaf zero r t z m n w = rw (m, n) w
       set-leaf (suc d) r t z m n w = absurd (omega arith)
 
-      pub insert-3 : (e : Separator) (r : Outcome) (t : List ℕ) → Bytes k → v < 2 ^ 64 → f .at ≡ false → d ≡ 0 → e ≡ separatorOf (record { key = take 288 k; val = v })
-          → ((y : Sep ℕ) → e ≡ separatorOf y → Fit y → Makes (insertNodeM d s x (f .index .0) y 0) r t) → Inserts d s x k v r t
+      pub insert-3 : (e : Separator) (r : Outcome) (t : List ℕ) → Bytes k → v < 2 ^ 64 → p .found .at ≡ false → d ≡ 0 → e ≡ separatorOf (record { key = take 288 k; val = v })
+          → ((y : Sep ℕ) → e ≡ separatorOf y → Fit y → Makes (insertNodeM d s x (p .found .index .0) y 0) r t) → Inserts d s x k v r t
       unfolding Inserts
       insert-3 e r t small most miss z made q pos short =
           let n : M.isNext k (zip .rgt) ≡ false = sym found ∙ miss in
           let whole : take 288 k ≡ k = take-all 288 k short in
-          let w : Makes (insertNodeM d s x (f .index .0) sep 0) r t = q sep (made ∙ ap (λ (l : List ℕ). separatorOf (record { key = l; val = v })) whole) (record { bytes = small; short = short; there = pos; small = most }) in
+          let w : Makes (insertNodeM d s x (p .found .index .0) sep 0) r t = q sep (made ∙ ap (λ (l : List ℕ). separatorOf (record { key = l; val = v })) whole) (record { bytes = small; short = short; there = pos; small = most }) in
           set-leaf d r t z there n (subst (λ (j : ℕ). Makes (insertNodeM d s x j sep 0) r t) index w)
 
-      pub insert-4 : {c : Child} (o r : Outcome) (t u : List ℕ) → f .at ≡ false → (d ≡ 0 → ⊥) → c ≡ getD (p .children) (f .index .0) (childOf 0)
-          → Inserts (d - 1) s (c .0) k v o t → Settles d t x (f .index .0) o r u → Inserts d s x k v r u
+      set-below : (o r : Outcome) (t u : List ℕ) → p .found .at ≡ false → (d ≡ 0 → ⊥) → Inserts (d - 1) s (p .child .0) k v o t → ((g : M.Came) → o ≡ ofCame g → FitCame g → Makes (settled d x (p .found .index .0) t g) r u) → Inserts d s x k v r u
       unfolding Inserts
-      insert-4 {c} o r t u miss z went q l pos short =
+      set-below o r t u miss z q l pos short =
           let n : M.isNext k (zip .rgt) ≡ false = sym found ∙ miss in
           let g : M.Ran = insertM sep d s (zip .mid) in
           let w : Makes g o t =
-          subst (λ (j : ℕ). Makes (insertM sep d s j) o t) (child-is s d x read tested h k held searched went) (subst (λ (m : ℕ). Makes (insertM sep m s (c .0)) o t) (down d z) (q pos short)) in
-          let y : Makes (settled d x (f .index .0) t (g .out)) r u = l .set (g .out) (w .0) (w .2) in
+          subst (λ (j : ℕ). Makes (insertM sep d s j) o t) child (subst (λ (m : ℕ). Makes (insertM sep m s (p .child .0)) o t) (down d z) (q pos short)) in
+          let y : Makes (settled d x (p .found .index .0) t (g .out)) r u = l (g .out) (w .0) (w .2) in
           let y2 : Makes (settled d x (length (zip .lft)) (g .store) (g .out)) r u =
-          subst (λ (j : ℕ). Makes (settled d x j (g .store) (g .out)) r u) index (subst (λ (v : List ℕ). Makes (settled d x (f .index .0) v (g .out)) r u) (w .1) y) in
+          subst (λ (j : ℕ). Makes (settled d x j (g .store) (g .out)) r u) index (subst (λ (v : List ℕ). Makes (settled d x (p .found .index .0) v (g .out)) r u) (w .1) y) in
           rw (there, n) y2
+
+      pub insert-4 : (o : Outcome) (t : List ℕ) {e : Bool} → p .found .at ≡ false → (d ≡ 0 → ⊥) → Inserts (d - 1) s (p .child .0) k v o t → e ≡ isPlain (o .came) → e ≡ true → Inserts d s x k v o t
+      insert-4 o t miss z q test done = set-below o o t t miss z q (set-done d t x (p .found .index .0) o test done)
+
+      pub insert-5 : (o r : Outcome) (t u : List ℕ) → p .found .at ≡ false → (d ≡ 0 → ⊥) → Inserts (d - 1) s (p .child .0) k v o t → Settles d t x (p .found .index .0) o r u → Inserts d s x k v r u
+      insert-5 o r t u miss z q l = set-below o r t u miss z q (λ g e fit. l .set g e fit)
 
     -- ---- a dereference
 
-    module _ {c : Child} (went : c ≡ getD (p .children) (f .index .0) (childOf 0)) where
-      child : c .0 ≡ zip .mid
-      child = child-is s d x read tested h k held searched went
+    pub existing-2 : (r : Outcome) → not (p .found .at) ≡ true → d ≡ 0 → r ≡ outcomeOf Plain → Removes d s x k r s
+    unfolding Removes
+    existing-2 r miss z q = leaf d z there (sym found ∙ not-true (p .found .at) miss)
+      where
+        leaf : (d : ℕ) → d ≡ 0 → readNodeAt d s x ≡ some (nodeIn s x) → M.isNext k (zip .rgt) ≡ false → Does (removeM k (suc d) s x) r s
+        leaf zero z m n = rw (m, n) (q, refl)
+        leaf (suc d) z m n = absurd (omega arith)
 
-      pub existing-2 : (r : Outcome) → not (f .at) ≡ true → d ≡ 0 → r ≡ outcomeOf Plain → Removes d s x k r s
-      unfolding Removes
-      existing-2 r miss z q = leaf d z there (sym found ∙ not-true (f .at) miss)
-        where
-          leaf : (d : ℕ) → d ≡ 0 → readNodeAt d s x ≡ some (nodeIn s x) → M.isNext k (zip .rgt) ≡ false → Does (removeM k (suc d) s x) r s
-          leaf zero z m n = rw (m, n) (q, refl)
-          leaf (suc d) z m n = absurd (omega arith)
+    lost-below : (o r : Outcome) (t u : List ℕ) → not (p .found .at) ≡ true → (d ≡ 0 → ⊥) → Removes (d - 1) s (p .child .0) k o t
+        → ((e : R.Fell) → o ≡ ofFell e → Does (settledLow d x (p .found .index .0) t e) r u) → Removes d s x k r u
+    unfolding Removes
+    lost-below o r t u miss z q l =
+        let n : M.isNext k (zip .rgt) ≡ false = sym found ∙ not-true (p .found .at) miss in
+        let g : R.Lost = removeM k d s (zip .mid) in
+        let w : Does g o t = subst (λ (j : ℕ). Does (removeM k d s j) o t) child (subst (λ (m : ℕ). Does (removeM k m s (p .child .0)) o t) (down d z) q) in
+        let y : Does (settledLow d x (p .found .index .0) t (g .out)) r u = l (g .out) (w .0) in
+        let y2 : Does (settledLow d x (length (zip .lft)) (g .store) (g .out)) r u =
+        subst (λ (j : ℕ). Does (settledLow d x j (g .store) (g .out)) r u) index (subst (λ (v : List ℕ). Does (settledLow d x (p .found .index .0) v (g .out)) r u) (w .1) y) in
+        rw (there, n) y2
 
-      pub existing-3 : (o r : Outcome) (t u : List ℕ) → not (f .at) ≡ true → (d ≡ 0 → ⊥) → Removes (d - 1) s (c .0) k o t → Settles d t x (f .index .0) o r u → Removes d s x k r u
-      unfolding Removes
-      existing-3 o r t u miss z q l =
-          let n : M.isNext k (zip .rgt) ≡ false = sym found ∙ not-true (f .at) miss in
-          let g : R.Lost = removeM k d s (zip .mid) in
-          let w : Does g o t = subst (λ (j : ℕ). Does (removeM k d s j) o t) child (subst (λ (m : ℕ). Does (removeM k m s (c .0)) o t) (down d z) q) in
-          let y = l .removed (g .out) (came-of (cameOf (g .out)) noSep 0 (w .0)) in
-          let y2 : Does (settledLow d x (length (zip .lft)) (g .store) (g .out)) r u =
-          subst (λ (j : ℕ). Does (settledLow d x j (g .store) (g .out)) r u) index (subst (λ (v : List ℕ). Does (settledLow d x (f .index .0) v (g .out)) r u) (w .1) y) in
-          rw (there, n) y2
+    pub existing-3 : (o : Outcome) (t : List ℕ) {e : Bool} → not (p .found .at) ≡ true → (d ≡ 0 → ⊥) → Removes (d - 1) s (p .child .0) k o t → e ≡ isPlain (o .came) → e ≡ true → Removes d s x k o t
+    existing-3 o t miss z q test done = lost-below o o t t miss z q (lost-done d t x (p .found .index .0) o test done)
 
-      pub existing-4 : (r : Outcome) (t : List ℕ) → not (f .at) ≡ false → d ≡ 0 → RemovesHere s x (f .index .0) r t → Removes d s x k r t
-      unfolding Removes RemovesHere
-      existing-4 r t hit z q = leaf d z there (sym found ∙ not-false (f .at) hit)
-        where
-          gone : (l : List (ℕ × Sep ℕ)) (m : ℕ) (g : List Step) → readNodeAt 0 s x ≡ some (plug x l m g) → f .index .0 ≡ length l → M.isNext k g ≡ true → Does (closeM s (withoutNext x l m g)) r t
-          gone l m [] e i n = absurd (let z : _≡_ {A = ℕ} 0 1 = cc in omega arith)
-          gone l m (y ∷ g) e i n = q l m y g e i
+    pub existing-4 : (o r : Outcome) (t u : List ℕ) → not (p .found .at) ≡ true → (d ≡ 0 → ⊥) → Removes (d - 1) s (p .child .0) k o t → Settles d t x (p .found .index .0) o r u → Removes d s x k r u
+    existing-4 o r t u miss z q l = lost-below o r t u miss z q (λ e h. l .removed e (came-of (cameOf e) noSep 0 h))
 
-          leaf : (d : ℕ) → d ≡ 0 → readNodeAt d s x ≡ some (nodeIn s x) → M.isNext k (zip .rgt) ≡ true → Does (removeM k (suc d) s x) r t
-          leaf zero z m n = rw (m, n) (gone (zip .lft) (zip .mid) (zip .rgt) (m ∙ ap some (sym (seek-plug (below k) x [] (firstIn s x) (restIn s x)))) index n)
-          leaf (suc d) z m n = absurd (omega arith)
+    pub existing-5 : (r : Outcome) (t : List ℕ) → not (p .found .at) ≡ false → d ≡ 0 → RemovesHere s x (p .found .index .0) r t → Removes d s x k r t
+    unfolding Removes RemovesHere
+    existing-5 r t hit z q = leaf d z there (sym found ∙ not-false (p .found .at) hit)
+      where
+        gone : (l : List (ℕ × Sep ℕ)) (m : ℕ) (g : List Step) → readNodeAt 0 s x ≡ some (plug x l m g) → p .found .index .0 ≡ length l → M.isNext k g ≡ true → Does (closeM s (withoutNext x l m g)) r t
+        gone l m [] e i n = absurd (let z : _≡_ {A = ℕ} 0 1 = cc in omega arith)
+        gone l m (y ∷ g) e i n = q l m y g e i
 
-      fit-unless : (o r : Outcome) (t u : List ℕ) (i : ℕ) (e : R.Fell) (w : Sep ℕ) → Fit w → FitUnless d t x i o r u e w
-      fit-unless o r t u i R.bad w f = tt
-      fit-unless o r t u i R.fine w f = f
-      fit-unless o r t u i R.low w f = f
+        leaf : (d : ℕ) → d ≡ 0 → readNodeAt d s x ≡ some (nodeIn s x) → M.isNext k (zip .rgt) ≡ true → Does (removeM k (suc d) s x) r t
+        leaf zero z m n = rw (m, n) (gone (zip .lft) (zip .mid) (zip .rgt) (m ∙ ap some (sym (seek-plug (below k) x [] (firstIn s x) (restIn s x)))) index n)
+        leaf (suc d) z m n = absurd (omega arith)
 
-      pub existing-5 : (o r : Outcome) (t u : List ℕ) → not (f .at) ≡ false → (d ≡ 0 → ⊥) → Lasts (removeLastM (suc (d - 1)) s (c .0)) o t → Replaces d t x (f .index .0) o r u → Removes d s x k r u
-      unfolding Removes Replaces
-      existing-5 o r t u hit z l q =
-          let n : M.isNext k (zip .rgt) ≡ true = sym found ∙ not-false (f .at) hit in
-          let below : Lasts (removeLastM d s (zip .mid)) o t = subst (λ (j : ℕ). Lasts (removeLastM d s j) o t) child (subst (λ (m : ℕ). Lasts (removeLastM m s (c .0)) o t) (down d z) l) in
-          rw (there, n) (go (removeLastM d s (zip .mid)) below)
-        where
-          go : (L : R.Last) → Lasts L o t → Does (takenM d s x zip L) r u
-          go R.nothing e = absurd e
-          go (R.broken v) e = let w = q noSep R.bad (e .0) tt in (w .0, w .1 ∙ e .1)
-          go (R.last y g) e =
-              let w = q y (g .out) (e .0) (fit-unless o r t u (f .index .0) (g .out) y (e .2)) in
-              subst (λ (j : ℕ). Does (replaceM d x j y (g .out) (g .store)) r u) index (subst (λ (v : List ℕ). Does (replaceM d x (f .index .0) y (g .out) v) r u) (e .1) w)
+    fit-unless : (o r : Outcome) (t u : List ℕ) (i : ℕ) (e : R.Fell) (w : Sep ℕ) → Fit w → FitUnless d t x i o r u e w
+    fit-unless o r t u i R.bad w f = tt
+    fit-unless o r t u i R.fine w f = f
+    fit-unless o r t u i R.low w f = f
+
+    pub existing-6 : (o r : Outcome) (t u : List ℕ) → not (p .found .at) ≡ false → (d ≡ 0 → ⊥) → Lasts (removeLastM (suc (d - 1)) s (p .child .0)) o t → Replaces d t x (p .found .index .0) o r u → Removes d s x k r u
+    unfolding Removes Replaces
+    existing-6 o r t u hit z l q =
+        let n : M.isNext k (zip .rgt) ≡ true = sym found ∙ not-false (p .found .at) hit in
+        let below : Lasts (removeLastM d s (zip .mid)) o t = subst (λ (j : ℕ). Lasts (removeLastM d s j) o t) child (subst (λ (m : ℕ). Lasts (removeLastM m s (p .child .0)) o t) (down d z) l) in
+        rw (there, n) (go (removeLastM d s (zip .mid)) below)
+      where
+        go : (L : R.Last) → Lasts L o t → Does (takenM d s x zip L) r u
+        go R.nothing e = absurd e
+        go (R.broken v) e = let w = q noSep R.bad (e .0) tt in (w .0, w .1 ∙ e .1)
+        go (R.last y g) e =
+            let w = q y (g .out) (e .0) (fit-unless o r t u (p .found .index .0) (g .out) y (e .2)) in
+            subst (λ (j : ℕ). Does (replaceM d x j y (g .out) (g .store)) r u) index (subst (λ (v : List ℕ). Does (replaceM d x (p .found .index .0) y (g .out) v) r u) (e .1) w)
 
 module _ (d : ℕ) (s : List ℕ) (x : ℕ) (k : Key) (v : ℕ) where
   pub change-1 : {set : Bool} (r : Outcome) (t : List ℕ) → set ≡ true → Inserts d s x k v r t → Changes set d s x k v r t

@@ -17,15 +17,13 @@ use Rattle.tree.specs.Tree.{Node, at, below}
 use Rattle.node.specs.declared.Child.{Child}
 use Rattle.node.specs.declared.Value.{Value}
 use Rattle.node.specs.declared.Node as struct
-use Rattle.node.specs.declared.Places.{Places}
 use Rattle.node.specs.declared.Reading.{Reading}
 use Rattle.node.specs.declared.Separator.{Separator}
-use Rattle.node.specs.declared.edit.Found.{Found}
 use Rattle.node.specs.declared.edit.Halves.{Halves}
 use Rattle.node.specs.Codec.{Step, isAccepted, Fit, FitAll, Writable}
 use Rattle.node.specs.Layout.{childOf, nodeOf}
 use Rattle.node.specs.Edit.{separatorOf, inserted, insertAt, valueAt, childAt, stepAt, parted, halves, halvesFrom}
-use Rattle.node.specs.EditMirror.{withValue, withChild, splitAt, positionOf}
+use Rattle.node.specs.EditMirror.{withValue, withChild, splitAt}
 use Rattle.node.specs.EditMirror as structs
 use Rattle.node.proofs.LayoutLaws.{Short}
 use Rattle.node.proofs.ArrayLaws.{drop-past}
@@ -33,18 +31,22 @@ use Rattle.node.proofs.EditLaws.{node-set-value, node-set-child, node-insert, n
 use Rattle.slots.specs.Limits.{mostDepth}
 use Rattle.slots.specs.Layout.{rootOf, depthOf}
 use Rattle.slots.specs.Mirror.{writeNode, takeSlot, setRoot}
-use Rattle.slots.specs.Code.{slotOf, bytesIn, firstIn, restIn, nodeIn, placesAt, readingAt, readNodeAt, writtenIn}
+use Rattle.slots.specs.Code.{slotOf, firstIn, restIn, nodeIn, readingAt, readNodeAt, writtenIn}
 use Rattle.slots.proofs.CodeLaws.{node-in, writable-in, accepted-slot, accepted-at, refused-at, written-chain}
 use Rattle.btree.specs.declared.Came as code
 use Rattle.btree.specs.declared.Came.the-variants.{Bad, Plain, Split, Low}
 use Rattle.btree.specs.declared.Outcome.{Outcome}
 use Rattle.btree.specs.declared.Needed.{Needed}
 use Rattle.btree.specs.declared.Needed.the-variants as needed
+use Rattle.node.specs.declared.search.Turn.the-variants.{NotBelow}
+use Rattle.node.specs.declared.search.Sight.{Sight}
+use Rattle.slots.specs.Search.{sightAt}
 use Rattle.btree.specs.Mirror as M
 use Rattle.btree.specs.Mirror.{inTwo, splitM, placeM, insertedAt, insertNodeM, revalued, setValueM, growM}
 use Rattle.btree.specs.RunMirror.{needM, wholeM, slotsNeededM, startM}
 use Rattle.btree.specs.Outcome.{outcomeWith, outcomeOf, ofCame, ofNeed, FitCame, Makes}
-use Rattle.btree.proofs.ReadPlaces.{count-of, not-read, was-read, count-read, at-is, child-is}
+use Rattle.btree.proofs.ReadPlaces.{count-of}
+use Rattle.btree.proofs.ReadSight.{sight-refused, sight-read, sight-count, sight-at, sight-child}
 
 short : (r : List Step) → FitAll r → Short r
 short [] f = tt
@@ -350,28 +352,31 @@ module _ (s : List ℕ) {root : ℕ} (there : root ≡ rootOf s) where
 pub no-child : (l : List Child) (i : ℕ) → length l ≡ 9 → 8 < i → childOf 0 ≡ getD l i (childOf 0)
 no-child l i e h = let g : length l ≤ i = omega arith in sym (List·getD-eq-default l (childOf 0) g)
 
-module _ (s : List ℕ) (k : Key) (d x run : ℕ) {p : Places} (read : p ≡ placesAt d s x) {b : Bool} (tested : b ≡ isAccepted (p .ending)) where
-  need-bad : not b ≡ true → needM k (suc d) s x run ≡ none
-  need-bad h = rw (not-read s d x read tested h)
+module _ (s : List ℕ) (k : Key) (d x run : ℕ) {v : Sight} (saw : v ≡ sightAt NotBelow d s x k) where
+  need-bad : not (v .good) ≡ true → needM k (suc d) s x run ≡ none
+  need-bad h = rw (sight-refused NotBelow s d x k saw h)
 
-  module _ (good : not b ≡ false) {bytes : List ℕ} (held : bytes ≡ bytesIn s x) {f : Found} (searched : f ≡ positionOf p bytes k false) where
-    need-here : f .at ≡ true → needM k (suc d) s x run ≡ some 0
+  module _ (good : not (v .good) ≡ false) where
+    there : readNodeAt d s x ≡ some (nodeIn s x)
+    there = sight-read NotBelow s d x k saw good
+
+    need-here : v .found .at ≡ true → needM k (suc d) s x run ≡ some 0
     need-here h =
-        let z : M.isNext k (at (below k) (nodeIn s x) .rgt) ≡ true = sym (at-is s d x read tested good k held searched) ∙ h in
-        rw (was-read s d x read tested good, z)
+        let z : M.isNext k (at (below k) (nodeIn s x) .rgt) ≡ true = sym (sight-at s d x k saw good) ∙ h in
+        rw (there, z)
 
-    module _ (no : f .at ≡ false) {c : Child} (went : c ≡ getD (p .children) (f .index .0) (childOf 0)) where
-      further : needM k (suc d) s x run ≡ needM k d s (c .0) (cond (leb 8 (length (restIn s x))) (suc run) 0)
+    module _ (no : v .found .at ≡ false) where
+      further : needM k (suc d) s x run ≡ needM k d s (v .child .0) (cond (leb 8 (length (restIn s x))) (suc run) 0)
       further =
-          let z : M.isNext k (at (below k) (nodeIn s x) .rgt) ≡ false = sym (at-is s d x read tested good k held searched) ∙ no in
-          rw (was-read s d x read tested good, z, child-is s d x read tested good k held searched went)
+          let z : M.isNext k (at (below k) (nodeIn s x) .rgt) ≡ false = sym (sight-at s d x k saw good) ∙ no in
+          rw (there, z, sight-child s d x k saw good)
 
-      need-few : p .count < 8 → needM k (suc d) s x run ≡ needM k d s (c .0) 0
-      need-few h = let z : leb 8 (length (restIn s x)) ≡ false = lt-leb 8 (length (restIn s x)) (omega (arith, count-read s d x read tested good)) in further ∙ rw z
+      need-few : v .count < 8 → needM k (suc d) s x run ≡ needM k d s (v .child .0) 0
+      need-few h = let z : leb 8 (length (restIn s x)) ≡ false = lt-leb 8 (length (restIn s x)) (omega (arith, h, sight-count NotBelow s d x k saw good)) in further ∙ rw z
 
-      need-full : 8 ≤ p .count → needM k (suc d) s x run ≡ needM k d s (c .0) (run + 1)
+      need-full : 8 ≤ v .count → needM k (suc d) s x run ≡ needM k d s (v .child .0) (run + 1)
       need-full h =
-          let z : leb 8 (length (restIn s x)) ≡ true = le-leb 8 (length (restIn s x)) (omega (arith, count-read s d x read tested good)) in
+          let z : leb 8 (length (restIn s x)) ≡ true = le-leb 8 (length (restIn s x)) (omega (arith, h, sight-count NotBelow s d x k saw good)) in
           let one : run + 1 ≡ suc run = omega arith in
           further ∙ rw (z, one)
 
@@ -390,30 +395,30 @@ pub needed-deep : (s : List ℕ) (k : Key) {top : ℕ} {r : Needed} → top ≡ 
 needed-deep s k e h g = absurd (omega arith)
 
 module _ (s : List ℕ) (k : Key) (top left x run : ℕ) (so-far : NeedLeft s k top left x run) where
-  module _ (more : 0 < left) {p : Places} (read : p ≡ placesAt (left - 1) s x) {b : Bool} (tested : b ≡ isAccepted (p .ending)) where
+  module _ (more : 0 < left) {v : Sight} (saw : v ≡ sightAt NotBelow (left - 1) s x k) where
     down : left ≡ suc (left - 1)
     down = omega arith
 
-    pub needed-refused : not b ≡ true → NeedsTo s k needed.Bad
+    pub needed-refused : not (v .good) ≡ true → NeedsTo s k needed.Bad
     unfolding NeedLeft
-    needed-refused h g = sym (ap ofNeed (so-far ∙ ap (λ (n : ℕ). wholeM (suc top) (needM k n s x run)) down ∙ ap (wholeM (suc top)) (need-bad s k (left - 1) x run read tested h)))
+    needed-refused h g = sym (ap ofNeed (so-far ∙ ap (λ (n : ℕ). wholeM (suc top) (needM k n s x run)) down ∙ ap (wholeM (suc top)) (need-bad s k (left - 1) x run saw h)))
 
-    module _ (good : not b ≡ false) {bytes : List ℕ} (held : bytes ≡ bytesIn s x) {f : Found} (searched : f ≡ positionOf p bytes k false) where
-      pub needed-found : f .at ≡ true → NeedsTo s k (needed.Slots 0)
+    module _ (good : not (v .good) ≡ false) where
+      pub needed-found : v .found .at ≡ true → NeedsTo s k (needed.Slots 0)
       unfolding NeedLeft
-      needed-found h g = sym (ap ofNeed (so-far ∙ ap (λ (n : ℕ). wholeM (suc top) (needM k n s x run)) down ∙ ap (wholeM (suc top)) (need-here s k (left - 1) x run read tested good held searched h) ∙ none-whole))
+      needed-found h g = sym (ap ofNeed (so-far ∙ ap (λ (n : ℕ). wholeM (suc top) (needM k n s x run)) down ∙ ap (wholeM (suc top)) (need-here s k (left - 1) x run saw good h) ∙ none-whole))
         where
           none-whole : wholeM (suc top) (some 0) ≡ some 0
           none-whole = let z : eqb 0 (suc top) ≡ false = ne-eqb 0 (suc top) (λ y. absurd (omega arith)) in rw z
 
-      module _ (no : f .at ≡ false) {c : Child} (went : c ≡ getD (p .children) (f .index .0) (childOf 0)) where
-        pub needed-few : p .count < 8 → NeedLeft s k top (left - 1) (c .0) 0
+      module _ (no : v .found .at ≡ false) where
+        pub needed-few : v .count < 8 → NeedLeft s k top (left - 1) (v .child .0) 0
         unfolding NeedLeft
-        needed-few h = so-far ∙ ap (λ (n : ℕ). wholeM (suc top) (needM k n s x run)) down ∙ ap (wholeM (suc top)) (need-few s k (left - 1) x run read tested good held searched no went h)
+        needed-few h = so-far ∙ ap (λ (n : ℕ). wholeM (suc top) (needM k n s x run)) down ∙ ap (wholeM (suc top)) (need-few s k (left - 1) x run saw good no h)
 
-        pub needed-full : 8 ≤ p .count → NeedLeft s k top (left - 1) (c .0) (run + 1)
+        pub needed-full : 8 ≤ v .count → NeedLeft s k top (left - 1) (v .child .0) (run + 1)
         unfolding NeedLeft
-        needed-full h = so-far ∙ ap (λ (n : ℕ). wholeM (suc top) (needM k n s x run)) down ∙ ap (wholeM (suc top)) (need-full s k (left - 1) x run read tested good held searched no went h)
+        needed-full h = so-far ∙ ap (λ (n : ℕ). wholeM (suc top) (needM k n s x run)) down ∙ ap (wholeM (suc top)) (need-full s k (left - 1) x run saw good no h)
 
   module _ (end : left ≤ 0) where
     ended : slotsNeededM s k ≡ some (cond (eqb run (suc top)) (suc run) run)

@@ -13,10 +13,13 @@ pub mod Room
 pub mod Runs
 pub mod Corollaries
 pub mod ReadPlaces
+pub mod ReadSight
 pub mod InsertCode
 pub mod RemoveCode
 pub mod RebalanceCode
 pub mod OneNodeCode
+pub mod ChangeSight
 pub mod ChangeCode
+pub mod RoomChain
 pub mod RunCode
 pub mod RunsCode

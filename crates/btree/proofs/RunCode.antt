@@ -34,6 +34,7 @@ use Rattle.btree.specs.RunMirror.{Did, slotsNeededM, actOn, actM}
 use Rattle.btree.specs.Outcome.{outcomeWith, noSep, outcomeOf, ofCame, FitCame, Makes, cameOf, ofFell, Does, Inserts, Removes, ofNeed}
 use Rattle.btree.specs.RunCode.{actedOf, Acts, finished, roomFor, roomIn, setKey, removeKey}
 use Rattle.btree.proofs.ChangeCode.{came-of, other}
+use Rattle.btree.proofs.RoomChain.{set-with-room}
 
 -- ---- the room test
 
@@ -176,36 +177,44 @@ module _ (s : List ℕ) (k : Key) (set : Bool) (v : ℕ) {depth : ℕ} (deep : d
         let z : pick set (some v) none ≡ none = pickF _ _ (not-true set e) in
         subst (λ (g : Did). Acts g r t) (sym (ap (actM s k) z ∙ on none ∙ removing)) a
 
-    module _ (e : not set ≡ false) {room : Acted} (test : depthOf s ≤ mostDepth → room ≡ roomIn s k) where
-      setting : actM s k (pick set (some v) none) ≡ M.setIf s (record { key = k; val = v }) (slotsNeededM s k)
-      setting = ap (actM s k) (pickT _ _ (not-false set e)) ∙ on (some v)
-
-      is : (a : Acted) → room ≡ a → a ≡ roomFor s (slotsNeededM s k)
-      is a q = sym q ∙ test low ∙ unfold roomIn in refl
-
+    module _ (e : not set ≡ false) where
       abbrev sep : Sep ℕ
       sep = record { key = k; val = v }
 
-      pub act-3 : (r : Acted) (t : List ℕ) → room ≡ acted.Done → (0 < v → length k ≤ longestKey → Acts (setKey s k v) r t) → ActsTo r t
-      act-3 r t q a pos short = subst (λ (g : Did). Acts g r t) (sym setting) (go (slotsNeededM s k) (is acted.Done q))
-        where
-          done : Acts (setKey s k v) r t
-          done = a (pos (not-false set e)) short
+      setting : actM s k (pick set (some v) none) ≡ M.setIf s sep (slotsNeededM s k)
+      setting = ap (actM s k) (pickT _ _ (not-false set e)) ∙ on (some v)
 
-          go : (o : Option ℕ) → acted.Done ≡ roomFor s o → Acts (M.setIf s sep o) r t
-          go none n = absurd (omega (arith, ap acted-number n))
-          go (some m) n = by-bool (hasFree m s (firstOf s)) (λ h. rw h (unfold setKey in done)) (λ h. absurd (let w = rw h at n in omega (arith, ap acted-number w)))
+      setting-free : hasFree (depth + 2) s (firstOf s) ≡ true → M.setIf s sep (slotsNeededM s k) ≡ setKey s k v
+      unfolding setKey
+      setting-free free = set-with-room sep s (rw (← deep) free)
 
-      pub act-4 : room ≡ acted.Bad → ActsTo acted.Bad s
-      act-4 q pos short = subst (λ (g : Did). Acts g acted.Bad s) (sym setting) (go (slotsNeededM s k) (is acted.Bad q))
-        where
-          go : (o : Option ℕ) → acted.Bad ≡ roomFor s o → Acts (M.setIf s sep o) acted.Bad s
-          go none n = (refl, refl)
-          go (some m) n = by-bool (hasFree m s (firstOf s)) (λ h. absurd (let w = rw h at n in omega (arith, ap acted-number w))) (λ h. absurd (let w = rw h at n in omega (arith, ap acted-number w)))
+      pub act-3 : (r : Acted) (t : List ℕ) {b : Bool} → b ≡ hasFree (depth + 2) s (firstOf s) → b ≡ true → (0 < v → length k ≤ longestKey → Acts (setKey s k v) r t) → ActsTo r t
+      act-3 r t free q a pos short = subst (λ (g : Did). Acts g r t) (sym (setting ∙ setting-free (sym free ∙ q))) (a (pos (not-false set e)) short)
 
-      pub act-5 : room ≡ acted.NoRoom → ActsTo acted.NoRoom s
-      act-5 q pos short = subst (λ (g : Did). Acts g acted.NoRoom s) (sym setting) (go (slotsNeededM s k) (is acted.NoRoom q))
-        where
-          go : (o : Option ℕ) → acted.NoRoom ≡ roomFor s o → Acts (M.setIf s sep o) acted.NoRoom s
-          go none n = absurd (omega (arith, ap acted-number n))
-          go (some m) n = by-bool (hasFree m s (firstOf s)) (λ h. absurd (let w = rw h at n in omega (arith, ap acted-number w))) (λ h. rw h (refl, refl))
+      module _ {room : Acted} (test : depthOf s ≤ mostDepth → room ≡ roomIn s k) where
+        is : (a : Acted) → room ≡ a → a ≡ roomFor s (slotsNeededM s k)
+        is a q = sym q ∙ test low ∙ unfold roomIn in refl
+
+        pub act-4 : (r : Acted) (t : List ℕ) → room ≡ acted.Done → (0 < v → length k ≤ longestKey → Acts (setKey s k v) r t) → ActsTo r t
+        act-4 r t q a pos short = subst (λ (g : Did). Acts g r t) (sym setting) (go (slotsNeededM s k) (is acted.Done q))
+          where
+            done : Acts (setKey s k v) r t
+            done = a (pos (not-false set e)) short
+
+            go : (o : Option ℕ) → acted.Done ≡ roomFor s o → Acts (M.setIf s sep o) r t
+            go none n = absurd (omega (arith, ap acted-number n))
+            go (some m) n = by-bool (hasFree m s (firstOf s)) (λ h. rw h (unfold setKey in done)) (λ h. absurd (let w = rw h at n in omega (arith, ap acted-number w)))
+
+        pub act-5 : room ≡ acted.Bad → ActsTo acted.Bad s
+        act-5 q pos short = subst (λ (g : Did). Acts g acted.Bad s) (sym setting) (go (slotsNeededM s k) (is acted.Bad q))
+          where
+            go : (o : Option ℕ) → acted.Bad ≡ roomFor s o → Acts (M.setIf s sep o) acted.Bad s
+            go none n = (refl, refl)
+            go (some m) n = by-bool (hasFree m s (firstOf s)) (λ h. absurd (let w = rw h at n in omega (arith, ap acted-number w))) (λ h. absurd (let w = rw h at n in omega (arith, ap acted-number w)))
+
+        pub act-6 : room ≡ acted.NoRoom → ActsTo acted.NoRoom s
+        act-6 q pos short = subst (λ (g : Did). Acts g acted.NoRoom s) (sym setting) (go (slotsNeededM s k) (is acted.NoRoom q))
+          where
+            go : (o : Option ℕ) → acted.NoRoom ≡ roomFor s o → Acts (M.setIf s sep o) acted.NoRoom s
+            go none n = absurd (omega (arith, ap acted-number n))
+            go (some m) n = by-bool (hasFree m s (firstOf s)) (λ h. absurd (let w = rw h at n in omega (arith, ap acted-number w))) (λ h. rw h (refl, refl))

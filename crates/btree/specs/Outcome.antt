@@ -38,6 +38,12 @@ isGood Plain = true
 isGood Split = true
 isGood Low = true
 
+abbrev pub isPlain : code.Came → Bool
+isPlain Bad = false
+isPlain Plain = true
+isPlain Split = false
+isPlain Low = false
+
 -- ---- a set
 
 abbrev pub ofCame : M.Came → Outcome

@@ -1,8 +1,7 @@
 // Change, insert and removal: from a node down to the leaf where the key belongs, and back up with what came of it. On the way
-// down only a node's places are read; a node is built where one is edited.
+// down a node is only searched; one is built where it is edited.
 use crate::Came;
 use crate::Outcome;
-use crate::insert::child_at;
 use crate::insert::insert_node;
 use crate::insert::set_value;
 use crate::removal::put_separator;
@@ -14,6 +13,7 @@ use node::Index;
 use node::Separator;
 use node::Slot;
 use node::Value;
+use node::search::Turn;
 ghost use Prim.Native.Nat.{suc};
 ghost use Rattle.btree.specs.RemoveMirror.{removeLastM};
 ghost use Rattle.btree.specs.Outcome.{Settles, Replaces, Lasts, Changes, Inserts, Removes};
@@ -53,22 +53,24 @@ fn replace(store: &mut [u8], child: Child, depth: u32, i: Index, last: Outcome) 
 fn remove_last(store: &mut [u8], child: Child, depth: u32) -> Outcome
     ensures { λ r. ⌜ Lasts (removeLastM (suc depth) (now (store .entry)) (child .0)) r (now (store .exit)) ⌝ }
 {
-    let places = slots::read_places_at(store, child, depth);
-    let ending = places.ending;
-    if !ending.is_accepted() {
+    let whole = &store[..];
+    let sight = slots::search_at(whole, child, depth, &whole[0..0], Turn::Last);
+    if !sight.good {
         return Outcome::of(Came::Bad);
     }
     if depth == 0 {
         return remove_end(store, child);
     }
-    let n = places.count;
-    let children = places.children;
-    let below = remove_last(store, child_at(children, Index(n)), depth - 1);
+    let below = remove_last(store, sight.child, depth - 1);
+    let came = below.came;
+    if came.is_plain() {
+        return below;
+    }
     let sep = below.separator;
-    let settled = settle(store, child, depth, Index(n), below);
-    let came = settled.came;
+    let settled = settle(store, child, depth, Index(sight.count), below);
+    let made = settled.came;
     Outcome {
-        came: came,
+        came: made,
         right: Slot(0),
         separator: sep,
     }
@@ -94,12 +96,11 @@ pub fn change(
 fn insert(store: &mut [u8], child: Child, depth: u32, key: &[u8], value: Value) -> Outcome
     ensures { λ r. ⌜ Inserts depth (now (store .entry)) (child .0) (now (key .entry)) (value .0) r (now (store .exit)) ⌝ }
 {
-    let places = slots::read_places_at(store, child, depth);
-    let ending = places.ending;
-    if !ending.is_accepted() {
+    let sight = slots::search_at(store, child, depth, key, Turn::NotBelow);
+    if !sight.good {
         return Outcome::of(Came::Bad);
     }
-    let found = places.position(slots::node_bytes(store, child), key, false);
+    let found = sight.found;
     if found.at {
         return set_value(store, child, depth, found.index, value);
     }
@@ -113,15 +114,11 @@ fn insert(store: &mut [u8], child: Child, depth: u32, key: &[u8], value: Value) 
             Child(0),
         );
     }
-    let children = places.children;
-    let below = change(
-        store,
-        child_at(children, found.index),
-        depth - 1,
-        true,
-        key,
-        value,
-    );
+    let below = change(store, sight.child, depth - 1, true, key, value);
+    let came = below.came;
+    if came.is_plain() {
+        return below;
+    }
     settle(store, child, depth, found.index, below)
 }
 
@@ -129,24 +126,25 @@ fn insert(store: &mut [u8], child: Child, depth: u32, key: &[u8], value: Value) 
 fn on_existing(store: &mut [u8], child: Child, depth: u32, key: &[u8]) -> Outcome
     ensures { λ r. ⌜ Removes depth (now (store .entry)) (child .0) (now (key .entry)) r (now (store .exit)) ⌝ }
 {
-    let places = slots::read_places_at(store, child, depth);
-    let ending = places.ending;
-    if !ending.is_accepted() {
+    let sight = slots::search_at(store, child, depth, key, Turn::NotBelow);
+    if !sight.good {
         return Outcome::of(Came::Bad);
     }
-    let found = places.position(slots::node_bytes(store, child), key, false);
-    let children = places.children;
-    let next = child_at(children, found.index);
+    let found = sight.found;
     if !found.at {
         if depth == 0 {
             return Outcome::of(Came::Plain);
         }
-        let below = change(store, next, depth - 1, false, key, Value(0));
+        let below = change(store, sight.child, depth - 1, false, key, Value(0));
+        let came = below.came;
+        if came.is_plain() {
+            return below;
+        }
         return settle(store, child, depth, found.index, below);
     }
     if depth == 0 {
         return remove_here(store, child, found.index);
     }
-    let last = remove_last(store, next, depth - 1);
+    let last = remove_last(store, sight.child, depth - 1);
     replace(store, child, depth, found.index, last)
 }

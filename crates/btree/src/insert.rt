@@ -8,13 +8,14 @@ use node::Node;
 use node::Separator;
 use node::Slot;
 use node::Value;
+use node::search::Turn;
 ghost use mathlib.Core.Path.{_≡_};
 ghost use mathlib.Core.List.{List};
 ghost use Prim.Native.Nat.{ℕ, _≤_, _<_};
-ghost use lib.ListN.{length, getD};
+ghost use lib.ListN.{length};
 ghost use Rattle.tree.specs.Map.{Sep};
 ghost use Rattle.node.specs.Codec.{Step, Fit, Writable};
-ghost use Rattle.node.specs.Layout.{childOf, nodeOf};
+ghost use Rattle.node.specs.Layout.{nodeOf};
 ghost use Rattle.node.specs.Edit.{separatorOf};
 ghost use Rattle.slots.specs.Limits.{mostDepth};
 ghost use Rattle.slots.specs.Layout.{depthOf};
@@ -153,17 +154,6 @@ pub fn start(store: &mut [u8])
 
 // ---- the room test
 
-// The child at an index; 0, which is none, past the ninth.
-pub fn child_at(children: [Child; 9], i: Index) -> Child
-    ensures { λ r. ⌜ r ≡ getD children (i .0) (childOf 0) ⌝ }
-{
-    let i = i.0;
-    if 8 < i {
-        return Child(0);
-    }
-    children[i]
-}
-
 // How many slots a set of the key needs: the full nodes that stand in a row up to where it goes in, "one more if that run
 // takes in the root", none if the key is there.
 pub fn slots_needed(store: &[u8], key: &[u8]) -> Needed
@@ -177,18 +167,15 @@ pub fn slots_needed(store: &[u8], key: &[u8]) -> Needed
     let mut left = top + 1;
     let mut run: u32 = 0;
     while 0 < left {
-        let places = slots::read_places_at(store, child, left - 1);
-        let ending = places.ending;
-        if !ending.is_accepted() {
+        let sight = slots::search_at(store, child, left - 1, key, Turn::NotBelow);
+        if !sight.good {
             return Needed::Bad;
         }
-        let found = places.position(slots::node_bytes(store, child), key, false);
-        if found.at {
+        if sight.found.at {
             return Needed::Slots(0);
         }
-        run = if places.count < 8 { 0 } else { run + 1 };
-        let children = places.children;
-        child = child_at(children, found.index);
+        run = if sight.count < 8 { 0 } else { run + 1 };
+        child = sight.child;
         left -= 1;
     }
     if run == top + 1 {

@@ -3,7 +3,7 @@ use node::Separator;
 use node::Slot;
 use node::Value;
 ghost use mathlib.Core.Path.{_≡_};
-ghost use Rattle.btree.specs.Outcome.{outcomeOf, isGood};
+ghost use Rattle.btree.specs.Outcome.{outcomeOf, isGood, isPlain};
 
 pub mod change;
 pub mod insert;
@@ -16,6 +16,21 @@ pub enum Came {
     Plain,
     Split,
     Low,
+}
+
+impl Came {
+    // Whether the change below is done. What came of it is then what comes of the node above too: it is handed on as it is, for
+    // a new outcome would be another 288 bytes of a key that isn't there.
+    pub fn is_plain(self) -> bool
+        ensures { λ r. ⌜ r ≡ isPlain self ⌝ }
+    {
+        match self {
+            Came::Bad => false,
+            Came::Plain => true,
+            Came::Split => false,
+            Came::Low => false,
+        }
+    }
 }
 
 // How many slots a set needs, where the bytes on its way are good.

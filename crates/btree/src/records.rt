@@ -101,11 +101,16 @@ fn remove_key(store: &mut [u8], key: &[u8]) -> Acted
 pub fn act(store: &mut [u8], set: bool, key: &[u8], value: Value) -> Acted
     ensures { λ r. ⌜ ((set ≡ true → 0 < value .0) → length (now (key .entry)) ≤ longestKey → Acts (actM (now (store .entry)) (now (key .entry)) (pick set (some (value .0)) none)) r (now (store .exit))) ⌝ }
 {
-    if 7 < slots::depth(store) {
+    let depth = slots::depth(store);
+    if 7 < depth {
         return Acted::Bad;
     }
     if !set {
         return remove_key(store, key);
+    }
+    // No set needs more than depth + 2 slots: where they are free, the walk that counts them is spared.
+    if slots::has_free(store, depth + 2) {
+        return set_key(store, key, value);
     }
     let room = check_room(store, key);
     match room {

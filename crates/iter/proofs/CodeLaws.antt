@@ -8,7 +8,7 @@ use Prim.Native.Nat.{ℕ, zero, suc, _+_, _-_, _≤_, _<_}
 use lib.ListN.{length, take, drop, getD, replicate, length-map, length-drop, List·getD-map, List·getD-eq-default}
 use lib.Dec.{ltb, eqb}
 use native.Mathlib.Omega.{arith}
-use borrow.Author.Tests.{not-true, not-false, le-leb, lt-leb, le-ltb, lt-ltb, eq-eqb, ne-eqb}
+use borrow.Author.Tests.{not-true, not-false, le-leb, lt-leb, le-ltb, lt-ltb, ltb-true, ltb-false, eq-eqb, ne-eqb}
 use Rattle.word.specs.Pick.{pick, pickT, pickF, by-test}
 use Rattle.word.specs.Key.{Key}
 use Rattle.word.specs.Part.{part}
@@ -47,9 +47,14 @@ use Rattle.iter.specs.declared.Candidate.{Candidate}
 use Rattle.iter.specs.declared.Candidate.the-variants as candidate
 use Rattle.iter.specs.declared.LookedUp.{LookedUp}
 use Rattle.iter.specs.declared.LookedUp.the-variants as looked
+use Rattle.node.specs.declared.search.Turn as inside
+use Rattle.node.specs.declared.search.Sight.{Sight}
+use Rattle.node.specs.Search.{Sees}
+use Rattle.slots.specs.Search.{sightAt, SeesAt}
+use Rattle.slots.proofs.SearchLaws.{sees-at}
 use Rattle.iter.specs.Walk.{foundHere, lookOn, lookFrom, lookupOf, Walked, bad, walked, onForward, onBackward, forwardFrom, backwardFrom}
 use Rattle.iter.specs.Cursor.{soughtOf, isLong, keyOf, movedTo, steppedOf, walkForward, walkBackward, forwardOf, backwardOf}
-use Rattle.iter.specs.Mirror.{lengthOf, turnForward, turnBackward, isNowhere, stepBy, turnAt, stopsAt, spotAt, takenAt, turned, walkDown, walkOf, walkedTo, leavesIt, movesIt}
+use Rattle.iter.specs.Mirror.{lengthOf, turnForward, turnBackward, isNowhere, stepBy, inNode, turnAt, stopsAt, spotAt, takenAt, candidateAt, hereOf, beforeOf, takenOf, turned, walkDown, walkOf, walkedTo, leavesIt, movesIt}
 
 below-suc : (d : ℕ) → (d ≡ 0 → ⊥) → d ≡ suc (d - 1)
 below-suc zero z = absurd (z refl)
@@ -380,29 +385,38 @@ module _ (s : List ℕ) (k : Key) where
 
 -- ---- the ways through the functions: in a node
 
-pub no-child : (l : List Child) (i : ℕ) → length l ≡ 9 → 8 < i → childOf 0 ≡ getD l i (childOf 0)
-no-child l i n h = let g : length l ≤ i = omega arith in sym (List·getD-eq-default l (childOf 0) g)
-
 module _ (p : Places) (x : Child) (i : ℕ) (c : Candidate) where
-  pub spot-1 : p .count ≤ i → c ≡ spotAt p x i c
+  spot-1 : p .count ≤ i → c ≡ spotAt p x i c
   unfolding spotAt
   spot-1 h = sym (pickT _ _ (le-leb (p .count) i h))
 
-  pub spot-2 : i < p .count → 7 < i → c ≡ spotAt p x i c
-  unfolding spotAt
-  spot-2 l h = sym (pickF _ _ (lt-leb (p .count) i l) ∙ pickT _ _ (lt-ltb 7 i h))
-
-  pub spot-3 : i < p .count → i ≤ 7 → candidate.At (record { child = x; start = getD (p .starts) i 0; len = getD (p .lens) i 0; value = getD (p .values) i (valueOf 0) }) ≡ spotAt p x i c
+  spot-3 : i < p .count → i ≤ 7 → candidate.At (record { child = x; start = getD (p .starts) i 0; len = getD (p .lens) i 0; value = getD (p .values) i (valueOf 0) }) ≡ spotAt p x i c
   unfolding spotAt
   spot-3 l h = sym (pickF _ _ (lt-leb (p .count) i l) ∙ pickF _ _ (le-ltb 7 i h))
 
 -- in an arm for u, the answer is what it would be for u
-module _ {a u : Aim} (p : Places) (x : Child) (i : ℕ) (c : Candidate) {r : Candidate} (e : a ≡ u) where
-  pub taken-arm : r ≡ takenAt u p x i c → r ≡ takenAt a p x i c
+pub turn-arm : {t u : Turn} {r : inside.Turn} → t ≡ u → r ≡ inNode u → r ≡ inNode t
+turn-arm e q = rw e q
+
+pub here-1 : (v : Sight) (x : Child) (c : Candidate) → not (v .turned) ≡ true → c ≡ hereOf v x c
+unfolding hereOf
+here-1 v x c h = sym (pickF _ _ (not-true (v .turned) h))
+
+pub here-2 : (v : Sight) (x : Child) (c : Candidate) {r : Candidate} → not (v .turned) ≡ false → r ≡ candidateAt x (v .here) → r ≡ hereOf v x c
+unfolding hereOf
+here-2 v x c h q = q ∙ sym (pickT _ _ (not-false (v .turned) h))
+
+module _ {a u : Aim} (v : Sight) (x : Child) (c : Candidate) {r : Candidate} (e : a ≡ u) where
+  pub taken-arm : r ≡ takenOf u v x c → r ≡ takenOf a v x c
   taken-arm q = rw e q
 
-pub turn-arm : {t u : Turn} (p : Places) (b : List ℕ) (k : Key) {f : Found} → t ≡ u → f ≡ turnAt u p b k → f ≡ turnAt t p b k
-turn-arm p b k e q = rw e q
+pub taken-first : (v : Sight) (x : Child) (c : Candidate) → v .found .index .0 < 1 → c ≡ beforeOf v x c
+unfolding beforeOf
+taken-first v x c h = sym (pickT _ _ (lt-ltb (v .found .index .0) 1 h))
+
+pub taken-before : (v : Sight) (x : Child) (c : Candidate) {r : Candidate} → 1 ≤ v .found .index .0 → r ≡ candidateAt x (v .before) → r ≡ beforeOf v x c
+unfolding beforeOf
+taken-before v x c h q = q ∙ sym (pickF _ _ (le-ltb (v .found .index .0) 1 h))
 
 pub stops-arm : {a u : Aim} (at : Bool) {r : Bool} → a ≡ u → r ≡ stopsAt u at → r ≡ stopsAt a at
 stops-arm at e q = rw e q
@@ -413,11 +427,56 @@ forward-arm e q = rw e q
 pub backward-arm : {p q : Place} {t : Turn} → p ≡ q → t ≡ turnBackward q → t ≡ turnBackward p
 backward-arm e q = rw e q
 
-pub taken-first : (p : Places) (x : Child) (i : ℕ) (c : Candidate) → i < 1 → c ≡ takenAt Before p x i c
-taken-first p x i c h = sym (pickT _ _ (lt-ltb i 1 h))
+-- ---- what is seen in a node that is read
 
-pub taken-before : (p : Places) (x : Child) (i : ℕ) (c : Candidate) {r : Candidate} → 1 ≤ i → r ≡ spotAt p x (i - 1) c → r ≡ takenAt Before p x i c
-taken-before p x i c h q = q ∙ sym (pickF _ _ (le-ltb i 1 h))
+module _ (s : List ℕ) (d : ℕ) (x : Child) (t : Turn) (k : Key) {v : Sight} (saw : v ≡ sightAt (inNode t) d s (x .0) k) where
+  abbrev places : Places
+  places = placesAt d s (x .0)
+
+  is-seen : SeesAt (inNode t) d s (x .0) k v
+  is-seen = subst (SeesAt (inNode t) d s (x .0) k) (sym saw) (sees-at (inNode t) d s (x .0) k)
+
+  module _ (good : not (v .good) ≡ false) where
+    seen : Sees (inNode t) places (bytesIn s (x .0)) k v
+    seen = is-seen .sees (not-false (v .good) good)
+
+    read : Read s d x
+    read = is-read s d x (sym (is-seen .good-is) ∙ not-false (v .good) good)
+
+    count-most : places .count ≤ 8
+    count-most = omega (arith, ap (λ (p : Places). p .count) (read .places), places-count (bytesIn s (x .0)), scan-lies (bytesIn s (x .0)) .most)
+
+    index-most : v .found .index .0 ≤ places .count
+    index-most =
+        let b : List ℕ = bytesIn s (x .0) in
+        let i : v .found .index .0 ≡ leading (passed t k) (chain b) = ap (λ (f : Found). f .index .0) (seen .found-is) ∙ ap (λ (p : Places). turnAt t p b k .index .0) (read .places) ∙ turn-index b t k in
+        omega (arith, i, leading-most (passed t k) (chain b), length-map (spots b) (stepOf b), places-count b, ap (λ (p : Places). p .count) (read .places))
+
+    here-is : (c : Candidate) → hereOf v x c ≡ spotAt places x (v .found .index .0) c
+    unfolding hereOf
+    here-is c =
+        by-bool (v .turned)
+        (λ e.
+        let l : v .found .index .0 < places .count = ltb-true (v .found .index .0) (places .count) (sym (seen .turned-is) ∙ e) in
+        pickT _ _ e ∙ ap (candidateAt x) (seen .here-is e) ∙ spot-3 places x (v .found .index .0) c l (omega (arith, count-most)))
+        (λ e. pickF _ _ e ∙ spot-1 places x (v .found .index .0) c (ltb-false (v .found .index .0) (places .count) (sym (seen .turned-is) ∙ e)))
+
+    before-here : (c : Candidate) → beforeOf v x c ≡ takenAt Before places x (v .found .index .0) c
+    unfolding beforeOf
+    before-here c = go (v .found .index .0) refl
+      where
+        go : (i : ℕ) → v .found .index .0 ≡ i → beforeOf v x c ≡ takenAt Before places x (v .found .index .0) c
+        go zero e = pickT _ _ (lt-ltb (v .found .index .0) 1 (omega arith)) ∙ sym (pickT _ _ (lt-ltb (v .found .index .0) 1 (omega arith)))
+        go (suc i) e =
+            pickF _ _ (le-ltb (v .found .index .0) 1 (omega arith))
+            ∙ ap (candidateAt x) (seen .before-is (omega arith))
+            ∙ spot-3 places x (v .found .index .0 - 1) c (omega (arith, index-most)) (omega (arith, index-most, count-most))
+            ∙ sym (pickF _ _ (le-ltb (v .found .index .0) 1 (omega arith)))
+
+    taken-is : (a : Aim) (c : Candidate) → takenOf a v x c ≡ takenAt a places x (v .found .index .0) c
+    taken-is Same c = refl
+    taken-is There c = here-is c
+    taken-is Before c = before-here c
 
 -- ---- the ways through the walk
 
@@ -426,35 +485,40 @@ module _ (t : Turn) (a : Aim) (k : Key) (s : List ℕ) where
   abbrev pub WalkLeft : Candidate → ℕ → Child → Candidate → Type 0
   WalkLeft whole d x c = whole ≡ walkDown t a k (suc d) s x c
 
-  module _ (whole : Candidate) (d : ℕ) (x : Child) (c : Candidate) (left : WalkLeft whole d x c) {p : Places} (reads : p ≡ placesAt d s (x .0)) {ok : Bool} (says : ok ≡ isAccepted (p .ending)) where
-    pub down-1 : not ok ≡ true → candidate.Bad ≡ whole
-    down-1 h = sym (left ∙ down-bad s t a k d x c (ap (λ (q : Places). isAccepted (q .ending)) (sym reads) ∙ sym says ∙ not-true ok h))
+  module _ (whole : Candidate) (d : ℕ) (x : Child) (c : Candidate) (left : WalkLeft whole d x c) {w : inside.Turn} (way : w ≡ inNode t) {v : Sight} (sees : v ≡ sightAt w d s (x .0) k) where
+    abbrev saw : v ≡ sightAt (inNode t) d s (x .0) k
+    saw = sees ∙ ap (λ (u : inside.Turn). sightAt u d s (x .0) k) way
 
-    module _ (h : not ok ≡ false) {b : List ℕ} (here : b ≡ bytesIn s (x .0)) {f : Found} (turns : f ≡ turnAt t p b k) {e : Bool} (ends : e ≡ stopsAt a (f .at)) where
+    abbrev at-depth : Places
+    at-depth = placesAt d s (x .0)
+
+    pub down-1 : not (v .good) ≡ true → candidate.Bad ≡ whole
+    down-1 h = sym (left ∙ down-bad s t a k d x c (sym (is-seen s d x t k saw .good-is) ∙ not-true (v .good) h))
+
+    module _ (h : not (v .good) ≡ false) {e : Bool} (ends : e ≡ stopsAt a (v .found .at)) where
       -- the node is read, with the function's own facts
-      node-walk : whole ≡ turned t a k (walkDown t a k d s) p x c f
+      node-walk : whole ≡ turned t a k (walkDown t a k d s) at-depth x c (v .found)
       unfolding walkDown
       node-walk =
-          left ∙ pickT _ _ (ap (λ (q : Places). isAccepted (q .ending)) (sym reads) ∙ sym says ∙ not-false ok h)
-          ∙ ap (λ (q : Places). turned t a k (walkDown t a k d s) q x c (turnAt t q (bytesIn s (x .0)) k)) (sym reads)
-          ∙ ap (λ (q : List ℕ). turned t a k (walkDown t a k d s) p x c (turnAt t p q k)) (sym here)
-          ∙ ap (turned t a k (walkDown t a k d s) p x c) (sym turns)
+          left ∙ pickT _ _ (sym (is-seen s d x t k saw .good-is) ∙ not-false (v .good) h)
+          ∙ ap (turned t a k (walkDown t a k d s) at-depth x c) (sym (seen s d x t k saw h .found-is))
 
-      pub down-2 : {r : Candidate} → e ≡ true → r ≡ spotAt p x (f .index .0) c → r ≡ whole
-      down-2 q w = w ∙ sym (node-walk ∙ pickT _ _ (sym ends ∙ q))
+      pub down-2 : {r : Candidate} → e ≡ true → r ≡ hereOf v x c → r ≡ whole
+      down-2 q w = w ∙ here-is s d x t k saw h c ∙ sym (node-walk ∙ pickT _ _ (sym ends ∙ q))
 
-      module _ (q : e ≡ false) {m : Candidate} (takes : m ≡ takenAt a p x (f .index .0) c) where
-        goes-on : whole ≡ walkDown t a k d s (getD (p .children) (f .index .0) (childOf 0)) m
-        goes-on = node-walk ∙ pickF _ _ (sym ends ∙ q) ∙ ap (walkDown t a k d s (getD (p .children) (f .index .0) (childOf 0))) (sym takes)
+      module _ (q : e ≡ false) {m : Candidate} (takes : m ≡ takenOf a v x c) where
+        goes-on : whole ≡ walkDown t a k d s (v .child) m
+        goes-on =
+            node-walk ∙ pickF _ _ (sym ends ∙ q)
+            ∙ ap (λ (y : Child). walkDown t a k d s y (takenAt a at-depth x (v .found .index .0) c)) (sym (seen s d x t k saw h .child-is))
+            ∙ ap (walkDown t a k d s (v .child)) (sym (takes ∙ taken-is s d x t k saw h a c))
 
         pub down-3 : d ≡ 0 → m ≡ whole
         unfolding walkDown
-        down-3 z = sym (goes-on ∙ ap (λ (n : ℕ). walkDown t a k n s (getD (p .children) (f .index .0) (childOf 0)) m) z)
+        down-3 z = sym (goes-on ∙ ap (λ (n : ℕ). walkDown t a k n s (v .child) m) z)
 
-        pub down-4 : {y : Child} → (d ≡ 0 → ⊥) → y ≡ getD (p .children) (f .index .0) (childOf 0) → WalkLeft whole (d - 1) y m
-        down-4 {y} z w =
-            let n : d ≡ suc (d - 1) = below-suc d z in
-            goes-on ∙ ap (λ (v : Child). walkDown t a k d s v m) (sym w) ∙ ap (λ (v : ℕ). walkDown t a k v s y m) n
+        pub down-4 : (d ≡ 0 → ⊥) → WalkLeft whole (d - 1) (v .child) m
+        down-4 z = goes-on ∙ ap (λ (n : ℕ). walkDown t a k n s (v .child) m) (below-suc d z)
 
   module _ (root : Child) (reads : root .0 ≡ rootOf s) where
     pub walk-1 : root .0 ≡ 0 → candidate.Nothing ≡ walkOf t a k s

@@ -15,7 +15,6 @@ use Rattle.node.specs.declared.Places.{Places}
 use Rattle.node.specs.declared.edit.Found.{Found}
 use Rattle.node.specs.Codec.{isAccepted, longestKey}
 use Rattle.node.specs.Layout.{childOf, valueOf}
-use Rattle.node.specs.EditMirror.{found, positionOf}
 use Rattle.slots.specs.Limits.{mostDepth}
 use Rattle.slots.specs.Layout.{isStore, rootOf, depthOf}
 use Rattle.slots.specs.Code.{bytesIn, placesAt}
@@ -32,6 +31,11 @@ use Rattle.iter.specs.declared.Aim.the-variants.{Same, There, Before}
 use Rattle.iter.specs.declared.Spot.{Spot}
 use Rattle.iter.specs.declared.Candidate.{Candidate}
 use Rattle.iter.specs.declared.Candidate.the-variants as candidate
+use Rattle.node.specs.declared.search.Turn as inside
+use Rattle.node.specs.declared.search.Turn.the-variants as turn
+use Rattle.node.specs.declared.search.Spot as seen
+use Rattle.node.specs.declared.search.Sight.{Sight}
+use Rattle.node.specs.Search as search
 use Rattle.iter.specs.Walk.{Walked, bad, walked}
 use Rattle.iter.specs.Cursor.{keyOf, movedTo}
 
@@ -44,13 +48,17 @@ isNowhere NotBelow = false
 isNowhere Above = false
 isNowhere Last = false
 
+-- how it turns in each node
+abbrev pub inNode : Turn → inside.Turn
+inNode Nowhere = turn.First
+inNode First = turn.First
+inNode NotBelow = turn.NotBelow
+inNode Above = turn.Above
+inNode Last = turn.Last
+
 -- the index where it turns, and whether the separator there has the key
 abbrev pub turnAt : Turn → Places → List ℕ → Key → Found
-turnAt Nowhere p b k = found 0 false
-turnAt First p b k = found 0 false
-turnAt NotBelow p b k = positionOf p b k false
-turnAt Above p b k = positionOf p b k true
-turnAt Last p b k = found (p .count) false
+turnAt t p b k = search.turnAt (inNode t) p b k
 
 abbrev pub stopsAt : Aim → Bool → Bool
 stopsAt Same at = at
@@ -68,6 +76,22 @@ abbrev pub takenAt : Aim → Places → Child → ℕ → Candidate → Candidat
 takenAt Same p x i c = c
 takenAt There p x i c = spotAt p x i c
 takenAt Before p x i c = pick (ltb i 1) c (spotAt p x (i - 1) c)
+
+-- the same by what is seen in the node
+
+abbrev pub candidateAt : Child → seen.Spot → Candidate
+candidateAt x y = candidate.At (record { child = x; start = y .start; len = y .len; value = y .value })
+
+unfoldable pub hereOf : Sight → Child → Candidate → Candidate
+hereOf v x c = pick (v .turned) (candidateAt x (v .here)) c
+
+unfoldable pub beforeOf : Sight → Child → Candidate → Candidate
+beforeOf v x c = pick (ltb (v .found .index .0) 1) c (candidateAt x (v .before))
+
+abbrev pub takenOf : Aim → Sight → Child → Candidate → Candidate
+takenOf Same v x c = c
+takenOf There v x c = hereOf v x c
+takenOf Before v x c = beforeOf v x c
 
 -- ---- the walk down
 

@@ -2,16 +2,12 @@
 // where they stand and builds no node; what it takes in each node is told by a `Turn` and an `Aim`.
 ghost use mathlib.Core.Path.{_≡_};
 ghost use Prim.Native.Nat.{suc};
-ghost use lib.ListN.{getD};
-ghost use Rattle.node.specs.Layout.{childOf};
 ghost use Rattle.iter.specs.Walk.{lookupNumber, lookupOf};
 ghost use Rattle.iter.specs.Cursor.{soughtNumber, soughtOf, stepNumber, forwardOf, backwardOf};
-ghost use Rattle.iter.specs.Mirror.{lengthOf, turnForward, turnBackward, isNowhere, turnAt, stopsAt, spotAt, takenAt, walkDown, walkOf, leavesIt, movesIt, stepBy};
+ghost use Rattle.iter.specs.Mirror.{lengthOf, turnForward, turnBackward, isNowhere, inNode, stopsAt, candidateAt, hereOf, takenOf, walkDown, walkOf, leavesIt, movesIt, stepBy};
 use node::Child;
-use node::Index;
-use node::Places;
 use node::Value;
-use node::edit::Found;
+use node::search::Sight;
 
 // What a lookup answers.
 pub enum LookedUp {
@@ -106,25 +102,16 @@ fn is_nowhere(turn: Turn) -> bool
     }
 }
 
-// The walk along a node: the index where it turns down, and whether the separator there has the key.
-fn turn_in(places: Places, s: &[u8], key: &[u8], turn: Turn) -> Found
-    ensures { λ r. ⌜ r ≡ turnAt turn places (now (s .entry)) (now (key .entry)) ⌝ }
+// How it turns in each node; one that is nowhere turns in none.
+fn in_node(turn: Turn) -> node::search::Turn
+    ensures { λ r. ⌜ r ≡ inNode turn ⌝ }
 {
     match turn {
-        Turn::Nowhere => Found {
-            index: Index(0),
-            at: false,
-        },
-        Turn::First => Found {
-            index: Index(0),
-            at: false,
-        },
-        Turn::NotBelow => places.position(s, key, false),
-        Turn::Above => places.position(s, key, true),
-        Turn::Last => Found {
-            index: Index(places.count),
-            at: false,
-        },
+        Turn::Nowhere => node::search::Turn::First,
+        Turn::First => node::search::Turn::First,
+        Turn::NotBelow => node::search::Turn::NotBelow,
+        Turn::Above => node::search::Turn::Above,
+        Turn::Last => node::search::Turn::Last,
     }
 }
 
@@ -139,50 +126,44 @@ fn stops(aim: Aim, at: bool) -> bool
     }
 }
 
-// The separator at an index as the candidate, or the last one where there is none.
-fn spot_at(places: Places, child: Child, i: usize, last: Candidate) -> Candidate
-    ensures { λ r. ⌜ r ≡ spotAt places child i last ⌝ }
+fn candidate_at(child: Child, spot: node::search::Spot) -> Candidate
+    ensures { λ r. ⌜ r ≡ candidateAt child spot ⌝ }
 {
-    if places.count <= i {
-        return last;
-    }
-    if 7 < i {
-        return last;
-    }
-    let value = places.values[i];
-    let start = places.starts[i];
-    let len = places.lens[i];
+    let value = spot.value;
     Candidate::At(Spot {
         child: child,
-        start: start,
-        len: len,
+        start: spot.start,
+        len: spot.len,
         value: value,
     })
 }
 
-// The candidate behind a node in which the walk turns at an index.
-fn taken(aim: Aim, places: Places, child: Child, i: usize, last: Candidate) -> Candidate
-    ensures { λ r. ⌜ r ≡ takenAt aim places child i last ⌝ }
+// The separator where the walk turns as the candidate, or the last one where there is none.
+fn here(sight: Sight, child: Child, last: Candidate) -> Candidate
+    ensures { λ r. ⌜ r ≡ hereOf sight child last ⌝ }
+{
+    if !sight.turned {
+        return last;
+    }
+    let spot = sight.here;
+    candidate_at(child, spot)
+}
+
+// The candidate behind a node, by what the walk sees in it.
+fn taken(aim: Aim, sight: Sight, child: Child, last: Candidate) -> Candidate
+    ensures { λ r. ⌜ r ≡ takenOf aim sight child last ⌝ }
 {
     match aim {
         Aim::Same => last,
-        Aim::There => spot_at(places, child, i, last),
+        Aim::There => here(sight, child, last),
         Aim::Before => {
-            if i < 1 {
+            if sight.found.index.0 < 1 {
                 return last;
             }
-            spot_at(places, child, i - 1, last)
+            let spot = sight.before;
+            candidate_at(child, spot)
         }
     }
-}
-
-fn child_at(places: Places, i: usize) -> Child
-    ensures { λ r. ⌜ r ≡ getD (places .children) i (childOf 0) ⌝ }
-{
-    if 8 < i {
-        return Child(0);
-    }
-    places.children[i]
 }
 
 // The walk down: from a child at a depth to depth 0. In each node the candidate is taken, and the walk goes on in the child
@@ -190,25 +171,23 @@ fn child_at(places: Places, i: usize) -> Child
 fn walk_down(store: &[u8], child: Child, depth: u32, key: &[u8], turn: Turn, aim: Aim) -> Candidate
     ensures { λ r. ⌜ r ≡ walkDown turn aim (now (key .entry)) (suc depth) (now (store .entry)) child Candidate.Nothing ⌝ }
 {
+    let way = in_node(turn);
     let mut last = Candidate::Nothing;
     let mut at = child;
     let mut level = depth;
     loop {
-        let places = slots::read_places_at(store, at, level);
-        let ending = places.ending;
-        if !ending.is_accepted() {
+        let sight = slots::search_at(store, at, level, key, way);
+        if !sight.good {
             return Candidate::Bad;
         }
-        let found = turn_in(places, slots::node_bytes(store, at), key, turn);
-        let i = found.index.0;
-        if stops(aim, found.at) {
-            return spot_at(places, at, i, last);
+        if stops(aim, sight.found.at) {
+            return here(sight, at, last);
         }
-        last = taken(aim, places, at, i, last);
+        last = taken(aim, sight, at, last);
         if level == 0 {
             return last;
         }
-        at = child_at(places, i);
+        at = sight.child;
         level -= 1;
     }
 }

@@ -9,5 +9,7 @@ pub mod WriteLaws
 pub mod ArrayLaws
 pub mod EditLaws
 pub mod PositionLaws
+pub mod SearchLaws
 pub mod EditCode
+pub mod SearchCode
 pub mod Table

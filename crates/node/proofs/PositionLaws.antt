@@ -114,15 +114,34 @@ module _ {A C : Type 0} where
 
 -- ---- the places of node bytes
 
+pub step-start : (c : Scan) (p : List (Spot × ℕ)) (x : Spot × ℕ) (q : List (Spot × ℕ)) → c .rest ≡ p ++ (x ∷ q) → getD (layout c .starts) (length p) 0 ≡ x .0 .start
+unfolding layout
+step-start c p x q e =
+    let f : Spot × ℕ → ℕ = λ y. y .0 .start in
+    getD-padded 8 0 (map f (c .rest)) (length p) ∙ rw e (getD-mapped f 0 p x q)
+
+pub step-len : (c : Scan) (p : List (Spot × ℕ)) (x : Spot × ℕ) (q : List (Spot × ℕ)) → c .rest ≡ p ++ (x ∷ q) → getD (layout c .lens) (length p) 0 ≡ x .0 .len
+unfolding layout
+step-len c p x q e =
+    let f : Spot × ℕ → ℕ = λ y. y .0 .len in
+    getD-padded 8 0 (map f (c .rest)) (length p) ∙ rw e (getD-mapped f 0 p x q)
+
+pub layout-count : (c : Scan) → layout c .count ≡ length (c .rest)
+unfolding layout
+layout-count c = refl
+
 -- what is found among r, past k or at it
 unfoldable pub foundBy : Bool → Key → List Step → Found
 foundBy past k r = pick past (foundPast k r) (foundIn k r)
 
-abbrev behind : ℕ → Found → Found
+abbrev pub behind : ℕ → Found → Found
 behind i f = found (i + f .index .0) (f .at)
 
+pub front : (f : Found) → behind 0 f ≡ f
+front f = let e : 0 + f .index .0 ≡ f .index .0 = omega arith in rw e
+
 -- each answer moved i on
-spread : (b : Bool) (i : ℕ) (e : Bool) (f : Found) → pick b (behind (i + 1) f) (found i e) ≡ behind i (pick b (behind 1 f) (found 0 e))
+pub spread : (b : Bool) (i : ℕ) (e : Bool) (f : Found) → pick b (behind (i + 1) f) (found i e) ≡ behind i (pick b (behind 1 f) (found 0 e))
 unfolding pick
 spread true i e f = let q : i + (1 + f .index .0) ≡ i + 1 + f .index .0 = omega arith in rw q
 spread false i e f = let q : i + 0 ≡ i = omega arith in rw q
@@ -131,13 +150,13 @@ one-more : (n : ℕ) (b : Bool) → found (suc n) b ≡ found (1 + n) b
 one-more n b = let e : suc n ≡ 1 + n = omega arith in rw e
 
 module _ (k : Key) where
-  found-none : (past : Bool) → foundBy past k [] ≡ found 0 false
+  pub found-none : (past : Bool) → foundBy past k [] ≡ found 0 false
   unfolding foundBy foundIn foundPast pick
   found-none true = refl
   found-none false = refl
 
   -- the search goes on behind a smaller key, and past an equal one
-  found-turn : (past : Bool) (x : Step) (r : List Step)
+  pub found-turn : (past : Bool) (x : Step) (r : List Step)
       → let o : Order = orderOf (cmp k (x .0 .key)) in foundBy past k (x ∷ r) ≡ pick (goesOn past o) (behind 1 (foundBy past k r)) (found 0 (isEqual o))
   unfolding foundBy foundIn foundPast pick
   found-turn true x r =
@@ -151,26 +170,10 @@ module _ (k : Key) where
       same-key e = cc (cmp-swap k (x .0 .key))
 
   module _ (s : List ℕ) (past : Bool) where
-    step-start : (c : Scan) (p : List (Spot × ℕ)) (x : Spot × ℕ) (q : List (Spot × ℕ)) → c .rest ≡ p ++ (x ∷ q) → getD (layout c .starts) (length p) 0 ≡ x .0 .start
-    unfolding layout
-    step-start c p x q e =
-        let f : Spot × ℕ → ℕ = λ y. y .0 .start in
-        getD-padded 8 0 (map f (c .rest)) (length p) ∙ rw e (getD-mapped f 0 p x q)
-
-    step-len : (c : Scan) (p : List (Spot × ℕ)) (x : Spot × ℕ) (q : List (Spot × ℕ)) → c .rest ≡ p ++ (x ∷ q) → getD (layout c .lens) (length p) 0 ≡ x .0 .len
-    unfolding layout
-    step-len c p x q e =
-        let f : Spot × ℕ → ℕ = λ y. y .0 .len in
-        getD-padded 8 0 (map f (c .rest)) (length p) ∙ rw e (getD-mapped f 0 p x q)
-
     order-there : (c : Scan) (p : List (Spot × ℕ)) (x : Spot × ℕ) (q : List (Spot × ℕ)) → c .rest ≡ p ++ (x ∷ q)
         → orderAt (layout c) s k (length p) ≡ orderOf (cmp k (part s (x .0 .start) (x .0 .len)))
     unfolding orderAt
     order-there c p x q e = rw (step-start c p x q e, step-len c p x q e)
-
-    layout-count : (c : Scan) → layout c .count ≡ length (c .rest)
-    unfolding layout
-    layout-count c = refl
 
     position-from : (c : Scan) (p q : List (Spot × ℕ)) (n : ℕ) → c .rest ≡ p ++ q → length p + n ≡ 8 → length q ≤ n
         → positionFrom (layout c) s k past (length p) n ≡ behind (length p) (foundBy past k (map (stepOf s) q))
@@ -196,9 +199,6 @@ pub position-places : (s : List ℕ) (k : Key) (past : Bool) → positionOf (pla
 unfolding positionOf placesOf
 position-places s k past =
     position-from k s past (scan s) [] (scan s .rest) 8 refl refl (scan-lies s .most) ∙ front (foundBy past k (map (stepOf s) (scan s .rest)))
-  where
-    front : (f : Found) → behind 0 f ≡ f
-    front f = let e : 0 + f .index .0 ≡ f .index .0 = omega arith in rw e
 
 pub position-finds : (s : List ℕ) (k : Key) → positionOf (placesOf s) s k false ≡ foundIn k (map (stepOf s) (scan s .rest))
 unfolding foundBy pick

@@ -3,3 +3,4 @@ pub mod Layout
 pub mod Mirror
 pub mod Edit
 pub mod EditMirror
+pub mod Search

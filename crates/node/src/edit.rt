@@ -29,7 +29,7 @@ pub struct Halves {
 }
 
 // Whether a search goes on behind a key, to which the key that is looked for has this order.
-fn goes_on(order: Order, past: bool) -> bool
+pub fn goes_on(order: Order, past: bool) -> bool
     ensures { λ r. ⌜ r ≡ goesOn past order ⌝ }
 {
     match order {
@@ -39,7 +39,7 @@ fn goes_on(order: Order, past: bool) -> bool
     }
 }
 
-fn is_equal(order: Order) -> bool
+pub fn is_equal(order: Order) -> bool
     ensures { λ r. ⌜ r ≡ isEqual order ⌝ }
 {
     match order {

@@ -8,6 +8,7 @@ ghost use Rattle.node.specs.Layout.{placesOf, readingOf, keyPlace, anyFi
 ghost use Rattle.node.specs.Mirror.{emptyPlaces, endedWith, measured, putSep};
 
 pub mod edit;
+pub mod search;
 
 pub struct Slot(pub u32);
 

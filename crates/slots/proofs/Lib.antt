@@ -10,3 +10,4 @@ pub mod Reached
 pub mod Paragraph
 pub mod Theorems
 pub mod CodeLaws
+pub mod SearchLaws

@@ -5,4 +5,5 @@ pub mod Stands
 pub mod Entries
 pub mod Format
 pub mod Code
+pub mod Search
 pub mod Reached

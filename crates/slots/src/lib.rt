@@ -5,11 +5,14 @@ ghost use Prim.Native.Nat.{_-_};
 ghost use Rattle.slots.specs.Layout.{start, rootOf, depthOf, countOf, firstOf, isStore};
 ghost use Rattle.slots.specs.Mirror.{isSlot, takeSlot, freeSlot, setRoot};
 ghost use Rattle.slots.specs.Code.{hasSize, slotOf, bytesIn, placesIn, readingIn, misfits, fitsDepth, placesAt, readingAt, writtenIn, hasFree, linked, formatNumber, Formats};
+ghost use Rattle.slots.specs.Search.{sightAt};
 use node::Child;
 use node::Node;
 use node::Places;
 use node::Reading;
 use node::Slot;
+use node::search::Sight;
+use node::search::Turn;
 
 // 01's store: 24 header bytes, then slots 1 to count of 2,560 bytes each.
 pub const HEADER_SIZE: usize = 24;
@@ -241,6 +244,14 @@ pub fn read_node_at(store: &[u8], child: Child, depth: u32) -> Reading
         return node::read(&store[0..0]);
     }
     reading
+}
+
+// What a walk for a key sees in the node of a child at a depth; not good where there is none, or its children don't fit the
+// depth.
+pub fn search_at(store: &[u8], child: Child, depth: u32, key: &[u8], turn: Turn) -> Sight
+    ensures { λ r. ⌜ r ≡ sightAt turn depth (now (store .entry)) (child .0) (now (key .entry)) ⌝ }
+{
+    node::search::search(node_bytes(store, child), key, turn, depth == 0)
 }
 
 // ---- writing, taking and freeing

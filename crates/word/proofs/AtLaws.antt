@@ -14,7 +14,7 @@ use Rattle.word.specs.Part.{part, over}
 use Rattle.word.specs.Num.{le, un, Bytes, zeros, allZero}
 use Rattle.word.specs.At.{fitsIn, readAt, writeAt, copyAt, clearAt, zeroAt}
 use Rattle.word.proofs.PartLaws.{length-part, length-over, part-over, part-before, part-behind, part-add, over-beside}
-use Rattle.word.proofs.NumLaws.{length-le, un-le, un-same, un-small, un-append, le-append, length-zeros, bytes-part, allZero-zeros, allZero-true}
+use Rattle.word.proofs.NumLaws.{length-le, un-le, un-small, un-append, le-append, length-zeros, bytes-part, allZero-zeros, allZero-true}
 
 -- the range test
 module _ (len at n : ℕ) where
@@ -63,13 +63,6 @@ module _ (k : ℕ) (s : List ℕ) (at : ℕ) where
 pub readAt-same : (k : ℕ) (s t : List ℕ) (at : ℕ) → length s ≡ length t → part s at k ≡ part t at k → readAt k s at ≡ readAt k t at
 unfolding readAt
 readAt-same k s t at l e = rw (l, e)
-
--- where two places read the same, the bytes there are the same
-pub part-same : (k : ℕ) (s t : List ℕ) (at from : ℕ) → Bytes s → Bytes t → at + k ≤ length s → from + k ≤ length t → readAt k s at ≡ readAt k t from
-    → part s at k ≡ part t from k
-part-same k s t at from p q h g e =
-    un-same (part s at k) (part t from k) (bytes-part s at k p) (bytes-part t from k q) (length-part s at k h ∙ sym (length-part t from k g))
-    (sym (readAt-in k s at h) ∙ e ∙ readAt-in k t from g)
 
 -- writing
 module _ (k : ℕ) (s : List ℕ) (at x : ℕ) where

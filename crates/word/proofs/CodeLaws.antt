@@ -3,23 +3,22 @@
 use mathlib.Core.Path.{_≡_, refl, sym, ap, _∙_}
 use mathlib.Core.List.{List, [], _∷_, _++_, append-assoc, append-nil}
 use mathlib.Core.Bool.{true, _&&_}
-use Prim.Native.Nat.{ℕ, zero, suc, max, _+_, _*_, _/_, _%_, _^_, _≤_, _<_, compare, Ordering·lt, Ordering·gt}
+use Prim.Native.Nat.{ℕ, zero, suc, max, _+_, _-_, _*_, _/_, _%_, _^_, _≤_, _<_, compare, Ordering·lt, Ordering·gt}
 use lib.ListN.{length, getD, set, drop, length-append, drop-of-length-le, take-append-drop}
 use lib.Seq.{drop-cons}
 use lib.Dec.{eqb}
 use borrow.Author.Tests.{ne-eqb}
 use native.Mathlib.Nat.{div-div-eq-div-mul, div-lt-iff-lt-mul, pow-suc}
-use native.Mathlib.Numerals.{add-one}
 use native.Mathlib.Omega.{arith}
 use Rattle.word.specs.declared.Order.the-variants.{Less, Equal, Greater}
 use Rattle.word.specs.Key.{cmp, pick3, orderOf}
 use Rattle.word.specs.Part.{part, over}
-use Rattle.word.specs.Num.{le, un, Bytes, zeros, allZero}
+use Rattle.word.specs.Num.{le, un, be, Bytes, zeros, allZero}
 use Rattle.word.specs.At.{readAt, writeAt, copyAt, clearAt, zeroAt}
-use Rattle.word.proofs.KeyOrder.{num-lt, num-gt, num-refl, cmp-front}
-use Rattle.word.proofs.PartLaws.{length-part, length-part-cut, length-over, getD-part, part-none, part-more, part-add, part-part, over-none, over-beside, set-over}
-use Rattle.word.proofs.NumLaws.{length-zeros, zeros-append, allZero-append, allZero-one, length-le}
-use Rattle.word.proofs.AtLaws.{readAt-in, part-same, writeAt-in, copyAt-in, clearAt-in, zeroAt-in}
+use Rattle.word.proofs.KeyOrder.{num-lt, num-gt, num-refl, cmp-front, cmp-eq, cmp-append, cmp-be}
+use Rattle.word.proofs.PartLaws.{length-part, length-part-cut, length-over, part-none, part-more, part-add, part-part, drop-split, over-none, over-beside, set-over}
+use Rattle.word.proofs.NumLaws.{length-zeros, zeros-append, allZero-append, allZero-one, length-le, be-append, bytes-part}
+use Rattle.word.proofs.AtLaws.{readAt-in, writeAt-in, copyAt-in, clearAt-in, zeroAt-in}
 
 -- a byte stored behind those that are stored already
 over-more : (s : List ℕ) (a : ℕ) (b : List ℕ) (i v : ℕ) → length b ≡ i → a + i < length s → set (over s a b) (a + i) v ≡ over s a (b ++ (v ∷ []))
@@ -117,60 +116,80 @@ reads-part s a i (b ∷ bs) h r =
     let ih = rw e at (reads-part s a (suc i) bs (omega arith) (r .1)) in
     rw (drop-cons s (a + i) 0 (omega arith)) (cc (r .0, ih))
 
+reads-all : (s : List ℕ) (at b : ℕ) (bs : List ℕ) → at + suc (length bs) ≤ length s → b ≡ getD s at 0 → Reads s at 1 bs → b ∷ bs ≡ part s at (suc (length bs))
+reads-all s at b bs h p r =
+    let e : at + 0 ≡ at = omega arith in
+    rw e at (reads-part s at 0 (b ∷ bs) (omega arith) (rw e p, r))
+
 pub read-straight : (s : List ℕ) (at b : ℕ) (bs : List ℕ) → at + suc (length bs) ≤ length s → b ≡ getD s at 0 → Reads s at 1 bs → joined b 256 bs ≡ readAt (suc (length bs)) s at
 unfolding un
-read-straight s at b bs h p r =
-    let e : at + 0 ≡ at = omega arith in
-    let q = rw e at (reads-part s at 0 (b ∷ bs) (omega arith) (rw e p, r)) in
-    joined-un b 256 bs ∙ ap un q ∙ sym (readAt-in (suc (length bs)) s at h)
+read-straight s at b bs h p r = joined-un b 256 bs ∙ ap un (reads-all s at b bs h p r) ∙ sym (readAt-in (suc (length bs)) s at h)
 
--- the loop of `same_front`: i bytes are the same
-module _ (a b : List ℕ) (from : ℕ) where
-  pub front-start : part a 0 0 ≡ part b from 0
-  front-start = part-none a 0 ∙ sym (part-none b from)
+-- `read_be` joins two halves
+pub read-halves : (s : List ℕ) (at b : ℕ) (high low : List ℕ) {v w : ℕ} → at + suc (length (high ++ low)) ≤ length s → b ≡ getD s at 0 → Reads s at 1 (high ++ low)
+    → v ≡ be (b ∷ high) → w ≡ be low → v * 256 ^ length low + w ≡ be (part s at (suc (length (high ++ low))))
+read-halves s at b high low h p r e f = rw (e, f) (sym (be-append (b ∷ high) low) ∙ ap be (reads-all s at b (high ++ low) h p r))
 
-  pub front-turn : (i : ℕ) {v w : ℕ} → Bytes a → Bytes b → i + 8 ≤ length a → (from + i) + 8 ≤ length b → part a 0 i ≡ part b from i
-      → v ≡ readAt 8 a i → w ≡ readAt 8 b (from + i) → v ≡ w → part a 0 (i + 8) ≡ part b from (i + 8)
-  front-turn i p q h g same e f t =
-      let z : 0 + i ≡ i = omega arith in
-      rw (part-add a 0 i 8, part-add b from i 8, z, same, part-same 8 a b i (from + i) p q h g (sym e ∙ t ∙ f))
+pub be-one : (s : List ℕ) (i : ℕ) → i < length s → getD s i 0 ≡ be (part s i 1)
+unfolding part be
+be-one s i h = rw (drop-cons s i 0 h) (omega arith)
 
--- `compare_part` begins behind what `same_front` found
+-- the loops of `compare_part`: i bytes are the same
+pub front-start : (a b : List ℕ) (from : ℕ) → part a 0 0 ≡ part b from 0
+front-start a b from = part-none a 0 ∙ sym (part-none b from)
+
+-- k more leave fewer
+pub fewer-left : (k i n : ℕ) → 0 < k → i + k ≤ n → n - (i + k) < n - i
+fewer-left k i n p h = omega arith
+
 front-rest : (s : List ℕ) (i : ℕ) → s ≡ part s 0 i ++ drop i s
 unfolding part
 front-rest s i = sym (take-append-drop i s)
 
-pub compare-behind : (key s : List ℕ) (at n i : ℕ) → i ≤ n → part key 0 i ≡ part s at i → cmp key (part s at n) ≡ cmp (drop i key) (drop i (part s at n))
-compare-behind key s at n i h e =
-    let p : List ℕ = part s at n in
-    let z : at + 0 ≡ at = omega arith in
-    let f : part p 0 i ≡ part key 0 i = part-part s at n 0 i (omega arith) ∙ rw z (sym e) in
-    ap (λ (k : List ℕ). cmp k p) (front-rest key i)
-    ∙ ap (λ (k : List ℕ). cmp (part key 0 i ++ drop i key) k) (front-rest p i ∙ ap (λ (k : List ℕ). k ++ drop i p) f)
-    ∙ cmp-front (part key 0 i) (drop i key) (drop i p)
+-- its ways
+module _ (key s : List ℕ) (at n i : ℕ) (front : part key 0 i ≡ part s at i) (inside : i ≤ length (part s at n)) where
+  behind : cmp key (part s at n) ≡ cmp (drop i key) (drop i (part s at n))
+  behind =
+      let p : List ℕ = part s at n in
+      let z : at + 0 ≡ at = omega arith in
+      let f : part p 0 i ≡ part key 0 i = part-part s at n 0 i (omega (arith, length-part-cut s at n)) ∙ rw z (sym front) in
+      ap (λ (k : List ℕ). cmp k p) (front-rest key i)
+      ∙ ap (λ (k : List ℕ). cmp (part key 0 i ++ drop i key) k) (front-rest p i ∙ ap (λ (k : List ℕ). k ++ drop i p) f)
+      ∙ cmp-front (part key 0 i) (drop i key) (drop i p)
 
--- the ways through `compare_part`, where the first i bytes are the same
-module _ (key s : List ℕ) (at n i : ℕ) (same : cmp key (part s at n) ≡ cmp (drop i key) (drop i (part s at n))) where
   pub compare-longer : i < length key → length (part s at n) ≤ i → Greater ≡ orderOf (cmp key (part s at n))
-  compare-longer h g = rw (same, drop-cons key i 0 h, drop-of-length-le (part s at n) g)
+  compare-longer h g = rw (behind, drop-cons key i 0 h, drop-of-length-le (part s at n) g)
 
   pub compare-shorter : length key ≤ i → i < length (part s at n) → Less ≡ orderOf (cmp key (part s at n))
-  compare-shorter h g = rw (same, drop-of-length-le key h, drop-cons (part s at n) i 0 g)
+  compare-shorter h g = rw (behind, drop-of-length-le key h, drop-cons (part s at n) i 0 g)
 
   pub compare-ended : length key ≤ i → length (part s at n) ≤ i → Equal ≡ orderOf (cmp key (part s at n))
-  compare-ended h g = rw (same, drop-of-length-le key h, drop-of-length-le (part s at n) g)
+  compare-ended h g = rw (behind, drop-of-length-le key h, drop-of-length-le (part s at n) g)
 
-  module _ (h : i < length key) (g : i < length (part s at n)) where
-    byte : cmp key (part s at n) ≡ pick3 (compare (getD key i 0) (getD s (at + i) 0)) Ordering·lt (cmp (drop (i + 1) key) (drop (i + 1) (part s at n))) Ordering·gt
-    byte =
-        let e = getD-part s at n i 0 (omega (arith, length-part-cut s at n)) in
-        rw (add-one, same, drop-cons key i 0 h, drop-cons (part s at n) i 0 g, e)
+  -- k bytes more, as the numbers v and w
+  module _ (k : ℕ) {v w : ℕ} (p : Bytes key) (q : Bytes s) (h : i + k ≤ length key) (g : i + k ≤ length (part s at n)) (e : v ≡ be (part key i k)) (f : w ≡ be (part s (at + i) k)) where
+    numbers : cmp (part key i k) (part s (at + i) k) ≡ compare v w
+    numbers =
+        rw (e, f)
+        (cmp-be (part key i k) (part s (at + i) k) (bytes-part key i k p) (bytes-part s (at + i) k q)
+        (length-part key i k h ∙ sym (length-part (part s at n) i k g) ∙ ap length (part-part s at n i k (omega (arith, length-part-cut s at n)))))
 
-    pub compare-less : getD key i 0 < getD s (at + i) 0 → Less ≡ orderOf (cmp key (part s at n))
-    compare-less l = rw (byte, num-lt (getD key i 0) (getD s (at + i) 0) l)
+    more : cmp key (part s at n) ≡ pick3 (compare v w) Ordering·lt (cmp (drop (i + k) key) (drop (i + k) (part s at n))) Ordering·gt
+    more =
+        let t : List ℕ = part s at n in
+        let l : length (part key i k) ≡ length (part t i k) = length-part key i k h ∙ sym (length-part t i k g) in
+        behind
+        ∙ rw (drop-split key i k, drop-split t i k)
+        (cmp-append (part key i k) (part t i k) (drop (i + k) key) (drop (i + k) t) l
+        ∙ rw (part-part s at n i k (omega (arith, length-part-cut s at n)), numbers))
 
-    pub compare-greater : getD s (at + i) 0 < getD key i 0 → Greater ≡ orderOf (cmp key (part s at n))
-    compare-greater l = rw (byte, num-gt (getD key i 0) (getD s (at + i) 0) l)
+    pub compare-less : v < w → Less ≡ orderOf (cmp key (part s at n))
+    compare-less l = rw (more, num-lt v w l)
 
-    pub compare-turn : getD key i 0 ≡ getD s (at + i) 0 → cmp key (part s at n) ≡ cmp (drop (i + 1) key) (drop (i + 1) (part s at n))
-    compare-turn e = rw (byte, e, num-refl)
+    pub compare-greater : w < v → Greater ≡ orderOf (cmp key (part s at n))
+    compare-greater l = rw (more, num-gt v w l)
+
+    pub compare-turn : v ≡ w → part key 0 (i + k) ≡ part s at (i + k)
+    compare-turn l =
+        let z : 0 + i ≡ i = omega arith in
+        rw (part-add key 0 i k, part-add s at i k, z, front, cmp-eq (part key i k) (part s (at + i) k) (numbers ∙ rw l (num-refl w)))

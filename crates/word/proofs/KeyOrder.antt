@@ -1,11 +1,14 @@
 -- The order of keys is a strict total order; that the code's comparison is this order is the contract of `compare`. Assumes
 -- nothing.
-use mathlib.Core.Path.{_≡_, refl, ap}
+use mathlib.Core.Path.{_≡_, refl, sym, ap, _∙_}
 use mathlib.Core.Logic.{_⊎_, inl, inr}
-use mathlib.Core.List.{[], _∷_, _++_}
-use Prim.Native.Nat.{ℕ, zero, suc, _<_, compare, Ordering, Ordering·lt, Ordering·eq, Ordering·gt, compare·zero-zero, compare·zero-suc, compare·suc-zero, compare·suc-suc}
+use mathlib.Core.List.{List, [], _∷_, _++_}
+use Prim.Native.Nat.{ℕ, zero, suc, _+_, _*_, _^_, _<_, compare, Ordering, Ordering·lt, Ordering·eq, Ordering·gt, compare·zero-zero, compare·zero-suc, compare·suc-zero, compare·suc-suc}
+use lib.ListN.{length}
 use native.Mathlib.Omega.{arith}
 use Rattle.word.specs.Key.{Key, cmp, pick3, Lt}
+use Rattle.word.specs.Num.{be, Bytes}
+use Rattle.word.proofs.NumLaws.{be-small}
 
 abbrev pub flip : Ordering → Ordering
 flip Ordering·lt = Ordering·gt
@@ -45,6 +48,23 @@ num-trans zero b (suc c) p q = compare·zero-suc c
 num-trans (suc a) zero (suc c) p q = cc (compare·suc-zero a)
 num-trans (suc a) (suc b) (suc c) p q = rw compare·suc-suc (num-trans a b c (rw compare·suc-suc at p) (rw compare·suc-suc at q))
 
+num-add : (k m n : ℕ) → compare (k + m) (k + n) ≡ compare m n
+num-add zero m n = let e : 0 + m ≡ m = omega arith in let f : 0 + n ≡ n = omega arith in rw (e, f)
+num-add (suc k) m n =
+    let e : suc k + m ≡ suc (k + m) = omega arith in
+    let f : suc k + n ≡ suc (k + n) = omega arith in
+    rw (e, f, compare·suc-suc) (num-add k m n)
+
+-- the higher digits count first
+num-digits : (b x y u v : ℕ) → u < b → v < b → compare (x * b + u) (y * b + v) ≡ pick3 (compare x y) Ordering·lt (compare u v) Ordering·gt
+num-digits b zero zero u v h g = let e : 0 * b + u ≡ u = omega arith in let f : 0 * b + v ≡ v = omega arith in rw (e, f)
+num-digits b zero (suc y) u v h g = rw (compare·zero-suc y) (num-lt (0 * b + u) (suc y * b + v) (omega arith))
+num-digits b (suc x) zero u v h g = rw (compare·suc-zero x) (num-gt (suc x * b + u) (0 * b + v) (omega arith))
+num-digits b (suc x) (suc y) u v h g =
+    let e : suc x * b + u ≡ b + (x * b + u) = omega arith in
+    let f : suc y * b + v ≡ b + (y * b + v) = omega arith in
+    rw (e, f, compare·suc-suc x y) (num-add b (x * b + u) (y * b + v) ∙ num-digits b x y u v h g)
+
 -- keys
 flip-pick : (o r : Ordering) → pick3 (flip o) Ordering·lt (flip r) Ordering·gt ≡ flip (pick3 o Ordering·lt r Ordering·gt)
 flip-pick Ordering·lt r = refl
@@ -78,6 +98,28 @@ cmp-eq (a ∷ xs) (b ∷ ys) e = go (cmp-eq xs ys) (compare a b) refl e
 pub cmp-front : (p a b : Key) → cmp (p ++ a) (p ++ b) ≡ cmp a b
 cmp-front [] a b = refl
 cmp-front (x ∷ p) a b = rw num-refl (cmp-front p a b)
+
+-- fronts of the same length count first
+pick-in : (o r t : Ordering) → pick3 o Ordering·lt (pick3 r Ordering·lt t Ordering·gt) Ordering·gt ≡ pick3 (pick3 o Ordering·lt r Ordering·gt) Ordering·lt t Ordering·gt
+pick-in Ordering·lt r t = refl
+pick-in Ordering·eq r t = refl
+pick-in Ordering·gt r t = refl
+
+pub cmp-append : (p q a b : Key) → length p ≡ length q → cmp (p ++ a) (q ++ b) ≡ pick3 (cmp p q) Ordering·lt (cmp a b) Ordering·gt
+cmp-append [] [] a b e = refl
+cmp-append [] (y ∷ q) a b e = absurd (omega arith)
+cmp-append (x ∷ p) [] a b e = absurd (omega arith)
+cmp-append (x ∷ p) (y ∷ q) a b e = rw (cmp-append p q a b (omega arith)) (pick-in (compare x y) (cmp p q) (cmp a b))
+
+-- the order of as many bytes is that of the numbers that they stand for, the highest first
+pub cmp-be : (a b : List ℕ) → Bytes a → Bytes b → length a ≡ length b → cmp a b ≡ compare (be a) (be b)
+unfolding be
+cmp-be [] [] p q e = sym compare·zero-zero
+cmp-be [] (y ∷ b) p q e = absurd (omega arith)
+cmp-be (x ∷ a) [] p q e = absurd (omega arith)
+cmp-be (x ∷ a) (y ∷ b) p q e =
+    let l : length b ≡ length a = omega arith in
+    rw (cmp-be a b (p .1) (q .1) (sym l), l) (sym (num-digits (256 ^ length a) x y (be a) (be b) (be-small a (p .1)) (rw l at (be-small b (q .1)))))
 
 trans3 : (o₁ o₂ o₃ r₁ r₂ r₃ : Ordering) → (o₁ ≡ Ordering·lt → o₂ ≡ Ordering·lt → o₃ ≡ Ordering·lt) → (o₁ ≡ Ordering·eq → o₃ ≡ o₂) → (o₂ ≡ Ordering·eq → o₃ ≡ o₁)
     → (r₁ ≡ Ordering·lt → r₂ ≡ Ordering·lt → r₃ ≡ Ordering·lt)

@@ -2,16 +2,16 @@
 -- zero. Assumes nothing.
 use mathlib.Core.Path.{_≡_, refl, sym, ap, _∙_}
 use mathlib.Core.List.{List, [], _∷_, _++_}
-use Prim.Native.Nat.{ℕ, zero, suc, _+_, _*_, _/_, _%_, _^_, _<_}
+use Prim.Native.Nat.{ℕ, zero, suc, _+_, _*_, _/_, _%_, _^_, _≤_, _<_}
 use mathlib.Core.Bool.{Bool, true, false, _&&_, and-assoc, and-true}
 use lib.ListN.{length, getD, take, drop, length-append, length-replicate, replicate-append-replicate}
 use lib.Pow.{pow-add}
 use lib.Dec.{eqb}
 use borrow.Author.Tests.{eqb-true}
-use native.Mathlib.Nat.{pow-suc, pow-zero, one-le-pow, mod-lt, div-lt-iff-lt-mul, div-add-mod'}
+use native.Mathlib.Nat.{pow-suc, pow-zero, one-le-pow, mul-le-mul-right, mod-lt, div-lt-iff-lt-mul, div-add-mod'}
 use native.Mathlib.Omega.{arith}
 use Rattle.word.specs.Part.{part, over}
-use Rattle.word.specs.Num.{le, un, Bytes, zeros, allZero}
+use Rattle.word.specs.Num.{le, un, be, Bytes, zeros, allZero}
 
 pub length-le : (k x : ℕ) → length (le k x) ≡ k
 unfolding le
@@ -45,6 +45,14 @@ pub un-small : (s : List ℕ) → Bytes s → un s < 256 ^ length s
 unfolding un
 un-small [] h = rw (pow-zero 256) (omega arith)
 un-small (b ∷ s) h = let p = h .0 in let ih = un-small s (h .1) in rw (pow-suc 256 (length s)) (omega arith)
+
+pub be-small : (s : List ℕ) → Bytes s → be s < 256 ^ length s
+unfolding be
+be-small [] h = rw (pow-zero 256) (omega arith)
+be-small (b ∷ s) h =
+    let p : b ≤ 255 = omega (arith, h .0) in
+    let m : b * 256 ^ length s ≤ 255 * 256 ^ length s = mul-le-mul-right (256 ^ length s) p in
+    rw (pow-suc 256 (length s)) (omega (arith, be-small s (h .1)))
 
 -- "Bytes" of a slice's contents comes from the slice's own rule
 pub bytes-of : (s : List ℕ) → ((i : ℕ) → i < length s → getD s i 0 < 256) → Bytes s
@@ -80,6 +88,12 @@ pub un-append : (a b : List ℕ) → un (a ++ b) ≡ un a + un b * 256 ^ length 
 unfolding un
 un-append [] b = rw (pow-zero 256) (omega arith)
 un-append (x ∷ a) b = rw (un-append a b, pow-suc 256 (length a)) (omega arith)
+
+-- the highest first
+pub be-append : (a b : List ℕ) → be (a ++ b) ≡ be a * 256 ^ length b + be b
+unfolding be
+be-append [] b = omega arith
+be-append (x ∷ a) b = rw (be-append a b, length-append a b, pow-add 256 (length a) (length b)) (omega arith)
 
 pub le-append : (j k x : ℕ) → x < 256 ^ (j + k) → le j (x % 256 ^ j) ++ le k (x / 256 ^ j) ≡ le (j + k) x
 le-append j k x h =

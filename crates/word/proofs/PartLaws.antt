@@ -3,7 +3,7 @@ use mathlib.Core.Path.{_≡_, refl, sym, ap, _∙_}
 use mathlib.Core.List.{List, [], _∷_, _++_, append-assoc, append-nil}
 use Prim.Native.Nat.{ℕ, zero, suc, min, _+_, _-_, _≤_, _<_}
 use lib.ListN.{length, getD, set, take, drop, length-append, length-take, length-drop, take-append-drop}
-use lib.Seq.{take-at, drop-at, take-append-le, drop-append-add, take-take, drop-drop, length-take-le, drop-append-le, take-nil, take-add, take-suc, take-length, getD-take, getD-drop, set-split}
+use lib.Seq.{take-at, drop-at, take-append-le, drop-append-add, take-take, drop-drop, length-take-le, drop-append-le, take-nil, take-add, take-suc, take-length, getD-drop, set-split}
 use native.Mathlib.Numerals.{add-one}
 use native.Mathlib.Omega.{arith}
 use Rattle.word.specs.Part.{part, over}
@@ -145,10 +145,6 @@ module _ {A : Type 0} where
   pub length-part-cut : (s : List A) (a n : ℕ) → length (part s a n) ≡ min n (length s - a)
   unfolding part
   length-part-cut s a n = rw (length-take, length-drop)
-
-  pub getD-part : (s : List A) (a n i : ℕ) (d : A) → i < n → getD (part s a n) i d ≡ getD s (a + i) d
-  unfolding part
-  getD-part s a n i d h = rw (getD-take, getD-drop)
 
   pub over-none : (s : List A) (a : ℕ) → over s a [] ≡ s
   unfolding over

@@ -1,9 +1,12 @@
 // Numbers in little-endian at a place of a slice, copies into a part, zero tests, and the order of keys. All is total:
 // what doesn't lie within the slice reads as 0, is not written, and is not all zero.
 ghost use mathlib.Core.Path.{_≡_};
-ghost use Prim.Native.Nat.{min, _-_, _<_, _≤_};
+ghost use mathlib.Core.List.{[], _∷_};
+ghost use Prim.Native.Nat.{min, _+_, _-_, _<_, _≤_};
+ghost use lib.ListN.{length};
 ghost use Rattle.word.specs.Key.{cmp, orderOf};
 ghost use Rattle.word.specs.Part.{part};
+ghost use Rattle.word.specs.Num.{be};
 ghost use Rattle.word.specs.At.{fitsIn, readAt, writeAt, copyAt, clearAt, zeroAt};
 
 pub enum Order {
@@ -156,46 +159,63 @@ fn within(len: usize, at: usize, n: usize) -> usize
     n
 }
 
-// How many bytes, eight at a time and at most n, are surely the same at the front of a and in b from `from` on. Keys share
-// long prefixes, and eight bytes are one load.
-fn same_front(a: &[u8], b: &[u8], from: usize, n: usize) -> usize
-    ensures { λ r. ⌜ (r ≤ n) × (part (now (a .entry)) 0 r ≡ part (now (b .entry)) from r) ⌝ }
+// Four bytes as one number, the highest first.
+fn join(a: u8, b: u8, c: u8, d: u8) -> u64
+    ensures { λ r. ⌜ (r ≡ be (a ∷ b ∷ c ∷ d ∷ [])) × (r < 4294967296) ⌝ }
 {
-    if !fits(b.len(), from, n) {
-        return 0;
-    }
-    let most = within(a.len(), 0, n);
-    let mut i = 0;
-    while 8 <= most - i {
-        if read_u64(a, i) != read_u64(b, from + i) {
-            return i;
-        }
-        i += 8;
-    }
-    i
+    wide(a) * 16777216 + wide(b) * 65536 + wide(c) * 256 + wide(d)
 }
 
-// The order of a key and the n bytes of s from `at` on, cut at the end of s.
+// The eight bytes of s from `at` on as one number, the highest first, so that the order of two such numbers is that of
+// the bytes. The caller knows that they are there: it is one load.
+fn read_be(s: &[u8], at: usize) -> u64
+    requires { ⌜ at + 8 ≤ length (now s) ⌝ }
+    ensures { λ r. ⌜ r ≡ be (part (now (s .entry)) at 8) ⌝ }
+{
+    let high = join(s[at], s[at + 1], s[at + 2], s[at + 3]);
+    let low = join(s[at + 4], s[at + 5], s[at + 6], s[at + 7]);
+    high * 4294967296 + low
+}
+
+// The order of a key and the n bytes of s from `at` on, cut at the end of s: eight bytes of both at a time, and the last
+// fewer than eight one by one. Whether they differ is tested apart from which is less, since a processor foresees the first
+// better than the second.
 pub fn compare_part(key: &[u8], s: &[u8], at: usize, n: usize) -> Order
     ensures { λ r. ⌜ r ≡ orderOf (cmp (now (key .entry)) (part (now (s .entry)) at n)) ⌝ }
 {
     let len = within(s.len(), at, n);
-    let mut i = same_front(key, s, at, len);
-    while i < key.len() {
-        if len <= i {
+    let both = within(key.len(), 0, len);
+    let mut i = 0;
+    while 8 <= both - i {
+        let mine = read_be(key, i);
+        let other = read_be(s, at + i);
+        if mine != other {
+            if mine < other {
+                return Order::Less;
+            }
             return Order::Greater;
         }
+        i += 8;
+    }
+    while i < both {
         let mine = key[i];
         let other = s[at + i];
-        if mine < other {
-            return Order::Less;
-        }
-        if other < mine {
+        if mine != other {
+            if mine < other {
+                return Order::Less;
+            }
             return Order::Greater;
         }
         i += 1;
     }
-    if i < len { Order::Less } else { Order::Equal }
+    if both < key.len() {
+        return Order::Greater;
+    }
+    if both < len {
+        Order::Less
+    } else {
+        Order::Equal
+    }
 }
 
 // The order of two keys.

@@ -24,20 +24,16 @@ slots-needed-spec =
     (λ c κs. search needs)  -- root-requires
     (λ c. omega arith)  -- add-left
     (λ c. (omega arith, omega arith, need-start _ _ (c .before .before .depth .ensures) (c .root .ensures)))  -- loop-holds
-    (λ c. search needs)  -- sub-read-places-at
-    (λ c κs. search needs)  -- read-places-at-requires
-    (λ c κs. search needs)  -- is-accepted-requires
-    (λ c. needed-refused _ _ _ _ _ _ (c .before .before .before .before .loop .inv .2) (c .before .before .before .loop-test .taken) (c .before .before .read-places-at .ensures) (c .before .is-accepted .ensures) (c .if2 .taken))  -- returns-2
-    (λ c κs. search needs)  -- node-bytes-requires
-    (λ c κs. search needs)  -- position-requires
-    (λ c. needed-found _ _ _ _ _ _ (c .before .before .before .before .before .before .before .loop .inv .2) (c .before .before .before .before .before .before .loop-test .taken) (c .before .before .before .before .before .read-places-at .ensures) (c .before .before .before .before .is-accepted .ensures) (c .before .before .before .if2 .left) (c .before .before .node-bytes .ensures) (c .before .position .ensures) (c .if3 .taken))  -- returns-3
-    (λ c. omega (arith, (c .before .before .before .before .before .before .before .before .before .loop .inv .0), (c .before .before .before .before .before .before .before .before .before .loop .inv .1), (c .before .before .before .before .before .before .before .before .before .before .before .if1 .left)))  -- add-run
-    (λ c κs. search needs)  -- child-at-requires
+    (λ c. search needs)  -- sub-search-at
+    (λ c κs. search needs)  -- search-at-requires
+    (λ c. needed-refused _ _ _ _ _ _ (c .before .before .before .before .loop .inv .2) (c .before .before .before .loop-test .taken) (c .before .before .search-at .ensures) (c .if2 .taken))  -- returns-2
+    (λ c. needed-found _ _ _ _ _ _ (c .before .before .before .before .before .loop .inv .2) (c .before .before .before .before .loop-test .taken) (c .before .before .before .search-at .ensures) (c .before .if2 .left) (c .if3 .taken))  -- returns-3
+    (λ c. omega (arith, (c .before .before .before .before .before .before .before .loop .inv .0), (c .before .before .before .before .before .before .before .loop .inv .1), (c .before .before .before .before .before .before .before .before .before .if1 .left)))  -- add-run
     (λ c. search needs)  -- sub-left
     (λ c. search needs)  -- loop-less
-    (λ c. ⊎-elim (λ w. rw (w .1) (omega (arith, (c .before .before .before .before .before .before .before .before .before .before .before .loop .inv .0)), omega (arith, (c .before .before .before .before .before .before .before .before .before .before .before .loop .inv .1), (c .before .before .before .before .before .before .before .before .before .before .loop-test .taken)), needed-few _ _ _ _ _ _ (c .before .before .before .before .before .before .before .before .before .before .before .loop .inv .2) (c .before .before .before .before .before .before .before .before .before .before .loop-test .taken) (c .before .before .before .before .before .before .before .before .before .read-places-at .ensures) (c .before .before .before .before .before .before .before .before .is-accepted .ensures) (c .before .before .before .before .before .before .before .if2 .left) (c .before .before .before .before .before .before .node-bytes .ensures) (c .before .before .before .before .before .position .ensures) (c .before .before .before .before .if3 .left) (c .child-at .ensures) (w .0 .taken))) (λ w. rw (w .1) (omega (arith, (c .before .before .before .before .before .before .before .before .before .before .before .loop .inv .0)), omega (arith, (c .before .before .before .before .before .before .before .before .before .before .before .loop .inv .1), (c .before .before .before .before .before .before .before .before .before .before .loop-test .taken)), needed-full _ _ _ _ _ _ (c .before .before .before .before .before .before .before .before .before .before .before .loop .inv .2) (c .before .before .before .before .before .before .before .before .before .before .loop-test .taken) (c .before .before .before .before .before .before .before .before .before .read-places-at .ensures) (c .before .before .before .before .before .before .before .before .is-accepted .ensures) (c .before .before .before .before .before .before .before .if2 .left) (c .before .before .before .before .before .before .node-bytes .ensures) (c .before .before .before .before .before .position .ensures) (c .before .before .before .before .if3 .left) (c .child-at .ensures) (w .0 .left))) (c .before .before .if4 .came))  -- loop-again
+    (λ c. ⊎-elim (λ w. rw (w .1) (omega (arith, (c .before .before .before .before .before .before .before .before .loop .inv .0)), omega (arith, (c .before .before .before .before .before .before .before .before .loop .inv .1), (c .before .before .before .before .before .before .before .loop-test .taken)), needed-few _ _ _ _ _ _ (c .before .before .before .before .before .before .before .before .loop .inv .2) (c .before .before .before .before .before .before .before .loop-test .taken) (c .before .before .before .before .before .before .search-at .ensures) (c .before .before .before .before .if2 .left) (c .before .before .before .if3 .left) (w .0 .taken))) (λ w. rw (w .1) (omega (arith, (c .before .before .before .before .before .before .before .before .loop .inv .0)), omega (arith, (c .before .before .before .before .before .before .before .before .loop .inv .1), (c .before .before .before .before .before .before .before .loop-test .taken)), needed-full _ _ _ _ _ _ (c .before .before .before .before .before .before .before .before .loop .inv .2) (c .before .before .before .before .before .before .before .loop-test .taken) (c .before .before .before .before .before .before .search-at .ensures) (c .before .before .before .before .if2 .left) (c .before .before .before .if3 .left) (w .0 .left))) (c .before .if4 .came))  -- loop-again
     (λ c. omega (arith, (c .before .before .before .if1 .left)))  -- add-if5
-    (λ c. omega (arith, (c .before .before .before .before .if1 .left), (c .if5 .taken)))  -- add-t18
+    (λ c. omega (arith, (c .before .before .before .before .if1 .left), (c .if5 .taken)))  -- add-t14
     (λ c. needed-whole _ _ _ _ _ _ (c .before .before .loop .inv .2) (c .before .loop-test .left) (c .if5 .taken))  -- returns-4
     (λ c. needed-part _ _ _ _ _ _ (c .before .before .loop .inv .2) (c .before .loop-test .left) (c .if5 .left))  -- returns-5
     )

@@ -1,0 +1,34 @@
+-- What the code learns of a node from one walk along its bytes, where it goes down to the last child. Where it goes down to a
+-- key, ReadSight says it. Assumes nothing.
+use mathlib.Core.Path.{_≡_, refl, ap, _∙_}
+use mathlib.Core.List.{List}
+use mathlib.Core.Bool.{false, not}
+use Prim.Native.Nat.{ℕ}
+use lib.ListN.{length, getD}
+use Rattle.word.specs.Key.{Key}
+use Rattle.tree.specs.Tree.{at, always}
+use Rattle.node.specs.declared.edit.Found.{Found}
+use Rattle.node.specs.Codec.{isAccepted}
+use Rattle.node.specs.Layout.{childOf}
+use Rattle.slots.specs.Code.{bytesIn, nodeIn, placesAt}
+use Rattle.node.specs.declared.search.Turn.the-variants.{Last}
+use Rattle.node.specs.declared.search.Sight.{Sight}
+use Rattle.node.specs.Search.{Sees}
+use Rattle.slots.specs.Search.{sightAt}
+use Rattle.btree.proofs.ReadPlaces.{last-index, last-child}
+use Rattle.btree.proofs.ReadSight.{sight-tested, sight-sees}
+
+module _ (s : List ℕ) (d x : ℕ) (k : Key) {v : Sight} (saw : v ≡ sightAt Last d s x k) (good : not (v .good) ≡ false) where
+  sees : Sees Last (placesAt d s x) (bytesIn s x) k v
+  sees = sight-sees Last s d x k saw good
+
+  tested : v .good ≡ isAccepted (placesAt d s x .ending)
+  tested = sight-tested Last s d x k saw
+
+  pub sight-last-index : v .count ≡ length (at always (nodeIn s x) .lft)
+  sight-last-index = sees .count-is ∙ last-index s d x refl tested good
+
+  pub sight-last-child : v .child .0 ≡ at always (nodeIn s x) .mid
+  sight-last-child =
+      last-child s d x refl tested good
+      (sees .child-is ∙ ap (λ (f : Found). getD (placesAt d s x .children) (f .index .0) (childOf 0)) (sees .found-is))
