@@ -240,15 +240,6 @@ module _ {A : Type 0} (f : A → Bool) {p a : A} {b : Bool} (z : A) (read : p �
   guard-2 h = read ∙ sym (pickT _ _ (ap f (sym read) ∙ sym test ∙ not-false b h))
 
 module _ (s : List ℕ) (x d : ℕ) where
-  module _ {p : Places} {b : Bool} (read : p ≡ placesIn s x) (test : b ≡ fitsDepth d (p .count) (p .children)) where
-    pub places-at-1 : {q : Places} → not b ≡ true → q ≡ placesOf [] → q ≡ placesAt d s x
-    unfolding placesAt
-    places-at-1 h e = guard-1 (λ (t : Places). fitsDepth d (t .count) (t .children)) (placesOf []) read test h e
-
-    pub places-at-2 : not b ≡ false → p ≡ placesAt d s x
-    unfolding placesAt
-    places-at-2 h = guard-2 (λ (t : Places). fitsDepth d (t .count) (t .children)) (placesOf []) read test h
-
   module _ {p : Reading} {b : Bool} (read : p ≡ readingIn s x) (test : b ≡ fitsDepth d (p .node .count) (p .node .children)) where
     pub node-at-1 : {q : Reading} → not b ≡ true → q ≡ readingOf [] → q ≡ readingAt d s x
     unfolding readingAt

@@ -4,7 +4,7 @@ ghost use mathlib.Core.Path.{_≡_};
 ghost use Prim.Native.Nat.{_-_};
 ghost use Rattle.slots.specs.Layout.{start, rootOf, depthOf, countOf, firstOf, isStore};
 ghost use Rattle.slots.specs.Mirror.{isSlot, takeSlot, freeSlot, setRoot};
-ghost use Rattle.slots.specs.Code.{hasSize, slotOf, bytesIn, placesIn, readingIn, misfits, fitsDepth, placesAt, readingAt, writtenIn, hasFree, linked, formatNumber, Formats};
+ghost use Rattle.slots.specs.Code.{hasSize, slotOf, bytesIn, placesIn, readingIn, misfits, fitsDepth, readingAt, writtenIn, hasFree, linked, formatNumber, Formats};
 ghost use Rattle.slots.specs.Search.{sightAt};
 use node::Child;
 use node::Node;
@@ -222,19 +222,7 @@ pub fn fits_depth(children: [Child; 9], count: usize, depth: u32) -> bool
     true
 }
 
-// A node's places, refused also where its children don't fit the depth.
-pub fn read_places_at(store: &[u8], child: Child, depth: u32) -> Places
-    ensures { λ r. ⌜ r ≡ placesAt depth (now (store .entry)) (child .0) ⌝ }
-{
-    let places = read_places(store, child);
-    let children = places.children;
-    if !fits_depth(children, places.count, depth) {
-        return Places::read(&store[0..0]);
-    }
-    places
-}
-
-// The same as a whole node.
+// The node of a child, refused also where its children don't fit the depth.
 pub fn read_node_at(store: &[u8], child: Child, depth: u32) -> Reading
     ensures { λ r. ⌜ r ≡ readingAt depth (now (store .entry)) (child .0) ⌝ }
 {
