@@ -5,7 +5,8 @@
  * all inputs: no argument has to be checked before a call. What C itself asks stays with the caller:
  *
  *  - a pointer names as many elements as the length beside it says; with length 0 it may be any pointer that is not null;
- *  - a pointer without a length names one element (one whole key array for `key`), and is not null;
+ *  - a pointer without a length names one element, or one whole array where the comment tells how many elements it has (288 for a
+ *    cursor's key), and is not null;
  *  - what is lent for writing overlaps nothing else that is lent to the same call;
  *  - no other thread writes to what is lent while the call runs.
  *
@@ -30,20 +31,29 @@ enum {
     CIKOLARO_FEW_MARKS = 2,  /* too few mark words */
     CIKOLARO_SHORT = 3,      /* a record cut short, or of an unknown kind */
     CIKOLARO_LONG_KEY = 4,   /* a key, or a cursor's length, over 288; a cursor's kind above 3 */
-    CIKOLARO_BAD_VALUE = 5,  /* a set with value 0, or a dereference with another value */
+    CIKOLARO_BAD_VALUE = 5,  /* a set, or a separator to be written, with value 0; a dereference with another value */
     CIKOLARO_FALLS = 6,      /* a key below the one before */
     CIKOLARO_TOO_MANY = 7,   /* a 65,536th record */
     CIKOLARO_FAILS = 8,      /* the audit fails; a walk meets a bad node, or a depth above 7 */
     CIKOLARO_NO_ROOM = 9,    /* too few free slots */
+    CIKOLARO_SHORT_DESTINATION = 10, /* too few bytes for the node that is to be written */
     /* of node bytes alone: under 8 bytes for a child, under 9 for a separator's head, under 4 for a long size, a key cut short */
     CIKOLARO_SHORT_CHILD = 11,
     CIKOLARO_SHORT_HEAD = 12,
     CIKOLARO_SHORT_SIZE = 13,
-    CIKOLARO_SHORT_KEY = 14
+    CIKOLARO_SHORT_KEY = 14,
+    CIKOLARO_BAD_TEXT = 15,           /* a bad line, too much text, or too little room for its records */
+    CIKOLARO_TOO_MANY_SEPARATORS = 16 /* a node that is to be written has more than 8 */
 };
 
 #define CIKOLARO_LONGEST_KEY 288
 #define CIKOLARO_MOST_SLOTS 65535
+#define CIKOLARO_MOST_SEPARATORS 8
+#define CIKOLARO_LONGEST_NODE 2480
+#define CIKOLARO_MOST_TEXT 16384
+
+/* How many bytes the records of any text of at most CIKOLARO_MOST_TEXT bytes fit in. */
+#define CIKOLARO_MOST_RECORD_BYTES 36038
 
 /* How many bytes a store of so many slots has. */
 #define CIKOLARO_STORE_SIZE(count) ((size_t)24 + (size_t)2560 * (size_t)(count))
@@ -75,6 +85,25 @@ uint32_t cikolaro_audit(const uint8_t *store, size_t store_len, uint64_t *marks,
  */
 uint32_t cikolaro_batch(uint8_t *store, size_t store_len, uint64_t *marks, size_t marks_len, const uint8_t *records,
                         size_t records_len, size_t *applied);
+
+/*
+ * House lines to the records that cikolaro_batch takes: `set` TAB key in lowercase hex TAB decimal, or `del` TAB key; each ends in
+ * LF. The text is only read.
+ * 0: the front of `records` holds the records in the order of the lines, *length is how many bytes they have, and the bytes behind
+ *    them are zero.
+ * 15 (a bad line, more than 16,384 bytes of text, or more records than fit): all lent record bytes are zero, *length is 0.
+ * What records and *length held before is not read. Whether a batch takes the records is not looked at here.
+ */
+uint32_t cikolaro_parse(const uint8_t *text, size_t text_len, uint8_t *records, size_t records_len, size_t *length);
+
+/*
+ * Runs house lines as one batch. `records` is the caller's room for their records. The text is only read.
+ * 15 (as cikolaro_parse): store and marks stay, all lent record bytes are zero, *applied is 0.
+ * Else the lent record bytes are as cikolaro_parse leaves them, and the number, the store, the marks and *applied are as
+ * cikolaro_batch answers and leaves them for these records. What records and *applied held before is not read.
+ */
+uint32_t cikolaro_run_lines(uint8_t *store, size_t store_len, uint64_t *marks, size_t marks_len, uint8_t *records,
+                            size_t records_len, const uint8_t *text, size_t text_len, size_t *applied);
 
 /*
  * The value of a key. Store and key are only read; the store need not be audited.
@@ -142,6 +171,17 @@ uint64_t cikolaro_node_child(const uint8_t *bytes, size_t bytes_len, size_t inde
  */
 uint32_t cikolaro_node_separator(const uint8_t *bytes, size_t bytes_len, size_t index, size_t *start, size_t *length,
                                  uint64_t *value);
+
+/*
+ * Writes a node of `count` separators in standard form to the front of the destination. Lent are 9 children, 8 values, 8 key lengths
+ * and 2,304 key bytes, all only read; the key of separator i is the first lengths[i] bytes from keys[288 * i] on. Children past
+ * the separators plus one, and lengths, values and key bytes that no separator uses, are dropped. They may hold anything.
+ * 0: *written is the node's length (8 to 2,480); the bytes behind it stay.
+ * 16 (count over 8), 4 (a length over 288), 5 (a value 0), 10 (a destination too short), looked for in this order: the destination
+ *    stays, *written is 0. What *written held before is not read.
+ */
+uint32_t cikolaro_node_write(size_t count, const uint64_t *children, const uint64_t *values, const size_t *lengths,
+                             const uint8_t *keys, uint8_t *destination, size_t destination_len, size_t *written);
 
 #ifdef __cplusplus
 }

@@ -1,6 +1,6 @@
 /*
- * A store in a C program: rows that were emitted are set, one is taken back, a key is looked up, and the entries are walked in
- * both directions. Everything lies in static memory; nothing is allocated.
+ * A store in a C program: rows that were emitted are set, one is taken back, house lines are run, a key is looked up, the entries are
+ * walked in both directions, and a node is written anew. Everything lies in static memory; nothing is allocated.
  */
 #include <inttypes.h>
 #include <stdio.h>
@@ -77,6 +77,19 @@ static void fill(void) {
     must(run(&applied) == CIKOLARO_DONE && applied == 2, "two records applied");
 }
 
+/* "row-11" in lowercase hex; a text whose last line has no LF is refused and changes nothing. */
+static void run_text(void) {
+    static const char text[] = "set\t726f772d3131\t110\n";
+    static uint8_t room[CIKOLARO_MOST_RECORD_BYTES];
+    size_t applied, length, text_len = sizeof text - 1;
+    const uint8_t *bytes = (const uint8_t *)text;
+    must(cikolaro_parse(bytes, text_len, room, sizeof room, &length) == CIKOLARO_DONE && length == 17, "one record of 17 bytes");
+    must(cikolaro_run_lines(store, sizeof store, marks, CIKOLARO_MARK_WORDS(SLOTS), room, sizeof room, bytes, text_len, &applied)
+             == CIKOLARO_DONE && applied == 1, "one line applied");
+    must(cikolaro_run_lines(store, sizeof store, marks, CIKOLARO_MARK_WORDS(SLOTS), room, sizeof room, bytes, text_len - 1, &applied)
+             == CIKOLARO_BAD_TEXT && applied == 0, "a line without its end is refused");
+}
+
 static void ask(void) {
     uint32_t present;
     uint64_t value;
@@ -105,6 +118,17 @@ static void look_inside(void) {
     must(cikolaro_node_child(slot + 4, node_len, 0) == 1 && cikolaro_node_child(slot + 4, node_len, 1) == 3, "its children");
     must(cikolaro_node_child(slot + 4, node_len, 2) == 0, "no third child");
     must(cikolaro_node_read(slot + 4, 7, &count) == CIKOLARO_SHORT_CHILD && count == 0, "bytes cut short");
+
+    /* The same node, written from its parts. */
+    static const uint64_t children[CIKOLARO_MOST_SEPARATORS + 1] = {1, 3};
+    static const uint64_t values[CIKOLARO_MOST_SEPARATORS] = {105};
+    static const size_t lengths[CIKOLARO_MOST_SEPARATORS] = {6};
+    static const uint8_t keys[CIKOLARO_MOST_SEPARATORS * CIKOLARO_LONGEST_KEY] = "row-06";
+    uint8_t written[CIKOLARO_LONGEST_NODE];
+    must(cikolaro_node_write(1, children, values, lengths, keys, written, sizeof written, &length) == CIKOLARO_DONE, "it is written");
+    must(length == node_len && memcmp(written, slot + 4, length) == 0, "to the bytes in the slot");
+    must(cikolaro_node_write(1, children, values, lengths, keys, written, length - 1, &length) == CIKOLARO_SHORT_DESTINATION,
+         "a destination too short");
 }
 
 static void refusals(void) {
@@ -135,6 +159,7 @@ int main(void) {
     size_t reached;
     must(cikolaro_format(store, sizeof store, SLOTS) == CIKOLARO_DONE, "format");
     fill();
+    run_text();
     ask();
     look_inside();
     refusals();

@@ -1,15 +1,17 @@
 -- Each way through this crate's functions (a law NAME-k is of the k-th return). Assumes nothing.
-use mathlib.Core.Path.{_≡_, sym, ap, subst, _∙_}
-use mathlib.Core.List.{List}
-use Prim.Native.Nat.{ℕ, _≤_, _<_}
-use lib.ListN.{getD}
+use mathlib.Core.Path.{_≡_, refl, sym, ap, subst, _∙_}
+use mathlib.Core.List.{List, [], _∷_, map}
+use Prim.Native.Nat.{ℕ, zero, suc, _≤_, _<_}
+use lib.ListN.{length, getD}
 use borrow.Author.Tests.{eq-eqb, ne-eqb, le-ltb, lt-ltb}
 use Rattle.word.specs.Pick.{pickT, pickF}
 use Rattle.node.specs.declared.Child.{Child}
 use Rattle.node.specs.declared.Value.{Value}
+use Rattle.node.specs.declared.Node.{Node}
 use Rattle.node.specs.declared.Places.{Places}
+use Rattle.node.specs.declared.Written.{Written}
 use Rattle.node.specs.Codec.{endingNumber}
-use Rattle.node.specs.Layout.{valueOf, childOf}
+use Rattle.node.specs.Layout.{valueOf, childOf, writtenOf, leftBy, writtenNumber, writtenLength}
 use Rattle.iter.specs.declared.LookedUp.{LookedUp}
 use Rattle.iter.specs.declared.Place.{Place}
 use Rattle.iter.specs.declared.Place.the-variants.{Start, End, At, Seeked}
@@ -18,7 +20,7 @@ use Rattle.iter.specs.declared.Stepped.{Stepped}
 use Rattle.iter.specs.declared.Sought.{Sought}
 use Rattle.iter.specs.Walk.{lookupNumber}
 use Rattle.iter.specs.Cursor.{soughtNumber, stepNumber}
-use Rattle.capi.specs.Face.{presentOf, foundValue, LooksUp, kindOf, lengthOf, placeOf, cursorOf, Holds, Seeks, entryOf, entryValue, Steps, within, ReadsNode, ReadsSeparator}
+use Rattle.capi.specs.Face.{presentOf, foundValue, LooksUp, kindOf, lengthOf, placeOf, cursorOf, Holds, Seeks, entryOf, entryValue, Steps, within, ReadsNode, ReadsSeparator, lentNode, WritesNode}
 
 pub looks-up : {a l : LookedUp} {r p v : ℕ} → l ≡ a → p ≡ presentOf l → v ≡ foundValue l → r ≡ lookupNumber l → LooksUp a r p v
 looks-up {r = r} {p = p} {v = v} e f g h = subst (λ (x : LookedUp). LooksUp x r p v) e (record { number = h; is-present = f; value-is = g })
@@ -104,3 +106,34 @@ reads-child {r = r} i e f = subst (λ (x : Places). r ≡ within 8 (x .children)
 
 pub reads-node : {p q : Places} {r n : ℕ} → q ≡ p → n ≡ q .count → r ≡ endingNumber (q .ending) → ReadsNode p r n
 reads-node {r = r} {n = n} e f g = subst (λ (x : Places). ReadsNode x r n) e (record { number = g; count-is = f })
+
+-- ---- a node to be written
+
+-- k elements from an index on, one by one
+abbrev listed : List ℕ → ℕ → ℕ → List ℕ
+listed l i zero = []
+listed l i (suc k) = getD l i 0 ∷ listed l (suc i) k
+
+listed-behind : (x : ℕ) (l : List ℕ) (i k : ℕ) → listed (x ∷ l) (suc i) k ≡ listed l i k
+listed-behind x l i zero = refl
+listed-behind x l i (suc k) = ap (λ (m : List ℕ). getD l i 0 ∷ m) (listed-behind x l (suc i) k)
+
+listed-all : (l : List ℕ) → listed l 0 (length l) ≡ l
+listed-all [] = refl
+listed-all (x ∷ l) = ap (λ (m : List ℕ). x ∷ m) (listed-behind x l 0 (length l) ∙ listed-all l)
+
+pub each : {A : Type 0} (f : ℕ → A) (l : List ℕ) (n : ℕ) → length l ≡ n → map f (listed l 0 n) ≡ map f l
+each f l n e = ap (map f) (subst (λ (m : ℕ). listed l 0 m ≡ l) e (listed-all l))
+
+abbrev nodeWith : ℕ → List ℕ → List ℕ → List Child → List Value → Node
+nodeWith count lens keys cs vs = record { count = count; children = cs; values = vs; lens = lens; keys = keys }
+
+written-by : {n : Node} {a : Written} {r w : ℕ} {d d' : List ℕ} → (a ≡ writtenOf n d) × (d' ≡ leftBy (writtenOf n d) n d) → w ≡ writtenLength a → r ≡ writtenNumber a → WritesNode n d r d' w
+written-by e f g = record { number = g ∙ ap writtenNumber (e .0); bytes = e .1; length-is = f ∙ ap writtenLength (e .0) }
+
+pub writes : (children values : List ℕ) {lens keys : List ℕ} {count r w : ℕ} {cs : List Child} {vs : List Value} {a : Written} {d d' : List ℕ} → cs ≡ map childOf children → vs ≡ map valueOf values
+    → (a ≡ writtenOf (nodeWith count lens keys cs vs) d) × (d' ≡ leftBy (writtenOf (nodeWith count lens keys cs vs) d) (nodeWith count lens keys cs vs) d)
+    → w ≡ writtenLength a → r ≡ writtenNumber a → WritesNode (lentNode count children values lens keys) d r d' w
+writes children values {lens = lens} {keys = keys} {count = count} {r = r} {w = w} {vs = vs} {d = d} {d' = d'} e f g h k =
+    subst (λ (x : List Value). WritesNode (nodeWith count lens keys (map childOf children) x) d r d' w) f
+    (subst (λ (x : List Child). WritesNode (nodeWith count lens keys x vs) d r d' w) e (written-by g h k))

@@ -2,19 +2,27 @@
 -- child is an equation already. Assumes nothing.
 use mathlib.Core.Path.{_≡_, sym, ap, _∙_}
 use mathlib.Core.List.{List}
+use mathlib.Core.Option.{some}
 use Prim.Native.Nat.{ℕ}
+use lib.ListN.{length}
 use Rattle.word.specs.Num.{Bytes}
+use Rattle.tree.specs.Batch.{Rec}
+use Rattle.node.specs.declared.Node.{Node}
 use Rattle.node.specs.declared.Places.{Places}
 use Rattle.audit.specs.Contract.{auditNumber, auditReached}
 use Rattle.audit.proofs.Theorems as audit
 use Rattle.batch.specs.declared.Batched.{Batched}
 use Rattle.batch.specs.Contract.{answerNumber}
 use Rattle.batch.proofs.Theorems as batch
+use Rattle.changes.specs.Records.{encodeRecords}
+use Rattle.lines.specs.Parses.{parsedNumber, parsedLength, taken}
+use Rattle.lines.proofs.Same as lines
+use Rattle.cikolaro.proofs.Theorems as face
 use Rattle.iter.specs.declared.LookedUp.{LookedUp}
 use Rattle.iter.specs.declared.Cursor.{Cursor}
 use Rattle.iter.specs.declared.Stepped.{Stepped}
 use Rattle.iter.specs.declared.Sought.{Sought}
-use Rattle.capi.specs.Face.{FormatsBy, AuditsBy, BatchesBy, LooksUp, Holds, Seeks, Steps, ReadsNode, ReadsSeparator}
+use Rattle.capi.specs.Face.{FormatsBy, AuditsBy, BatchesBy, ParsesBy, RunsLinesBy, LooksUp, Holds, Seeks, Steps, ReadsNode, ReadsSeparator, WritesNode}
 
 pub format-once : {s t t′ : List ℕ} {n r r′ : ℕ} → FormatsBy s n r t → FormatsBy s n r′ t′ → (r ≡ r′) × (t ≡ t′)
 format-once a b = (a .number ∙ a .formats .number ∙ sym (b .number ∙ b .formats .number), a .formats .bytes ∙ sym (b .formats .bytes))
@@ -30,6 +38,23 @@ batch-once {s = s} {ms = ms} {q = q} {t = t} {t′ = t′} {ns = ns} {ns′ = ns
       a .number ∙ ap (λ (x : Batched). answerNumber (x .answer)) (e .0) ∙ sym (b .number),
       e .1,
       e .2,
+      a .count ∙ ap (λ (x : Batched). x .applied) (e .0) ∙ sym (b .count),
+    )
+
+pub parse-once : {text buffer left left′ : List ℕ} {r r′ n n′ : ℕ} → ParsesBy text buffer r left n → ParsesBy text buffer r′ left′ n′ → (r ≡ r′) × (left ≡ left′) × (n ≡ n′)
+parse-once {text = text} {buffer = buffer} {left = left} {left′ = left′} a b =
+    let e : (a .answer ≡ b .answer) × (left ≡ left′) = lines.same-parse text buffer (a .answer) (b .answer) left left′ (a .parses) (b .parses) in
+    (a .number ∙ ap parsedNumber (e .0) ∙ sym (b .number), e .1, a .length-is ∙ ap parsedLength (e .0) ∙ sym (b .length-is))
+
+pub lines-once : {s ms buffer text t t′ ns ns′ left left′ : List ℕ} {r r′ n n′ : ℕ} → Bytes s
+    → ((rs : List (Rec ℕ)) → taken text (length buffer) ≡ some rs → Bytes (encodeRecords rs))
+    → RunsLinesBy s ms buffer text r t ns left n → RunsLinesBy s ms buffer text r′ t′ ns′ left′ n′ → (r ≡ r′) × (t ≡ t′) × (ns ≡ ns′) × (left ≡ left′) × (n ≡ n′)
+lines-once {s = s} {ms = ms} {buffer = buffer} {text = text} {t = t} {t′ = t′} {ns = ns} {ns′ = ns′} {left = left} {left′ = left′} bs bq a b =
+    let e : (a .answer ≡ b .answer) × (t ≡ t′) × (ns ≡ ns′) × (left ≡ left′) = face.lines-once s ms buffer text (a .answer) t ns left (b .answer) t′ ns′ left′ bs bq (a .runs) (b .runs) in (
+      a .number ∙ ap (λ (x : Batched). answerNumber (x .answer)) (e .0) ∙ sym (b .number),
+      e .1,
+      e .2,
+      e .3,
       a .count ∙ ap (λ (x : Batched). x .applied) (e .0) ∙ sym (b .count),
     )
 
@@ -51,3 +76,6 @@ node-once a b = (a .number ∙ sym (b .number), a .count-is ∙ sym (b .count-is
 
 pub separator-once : {x : Places} {i r s n v r′ s′ n′ v′ : ℕ} → ReadsSeparator x i r s n v → ReadsSeparator x i r′ s′ n′ v′ → (r ≡ r′) × (s ≡ s′) × (n ≡ n′) × (v ≡ v′)
 separator-once a b = (a .number ∙ sym (b .number), a .start-is ∙ sym (b .start-is), a .length-is ∙ sym (b .length-is), a .value-is ∙ sym (b .value-is))
+
+pub write-once : {x : Node} {d t t′ : List ℕ} {r n r′ n′ : ℕ} → WritesNode x d r t n → WritesNode x d r′ t′ n′ → (r ≡ r′) × (t ≡ t′) × (n ≡ n′)
+write-once a b = (a .number ∙ sym (b .number), a .bytes ∙ sym (b .bytes), a .length-is ∙ sym (b .length-is))

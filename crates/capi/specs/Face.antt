@@ -1,14 +1,15 @@
 -- What the exported functions answer and leave, told by the contracts of the functions that they call. An answer's number is 01's;
 -- what stands beside the number lies in lent numbers. Assumes nothing.
 use mathlib.Core.Path.{_≡_}
-use mathlib.Core.List.{List}
+use mathlib.Core.List.{List, map}
 use Prim.Native.Nat.{ℕ}
 use lib.ListN.{getD}
 use lib.Dec.{ltb, eqb}
 use Rattle.word.specs.Pick.{pick}
+use Rattle.node.specs.declared.Node.{Node}
 use Rattle.node.specs.declared.Places.{Places}
 use Rattle.node.specs.Codec.{endingNumber}
-use Rattle.node.specs.Layout.{valueOf}
+use Rattle.node.specs.Layout.{valueOf, childOf, writtenOf, leftBy, writtenNumber, writtenLength}
 use Rattle.slots.specs.declared.Formatted.{Formatted}
 use Rattle.slots.specs.Code.{formatNumber, Formats}
 use Rattle.audit.specs.declared.Verdict.{Verdict}
@@ -26,6 +27,9 @@ use Rattle.iter.specs.declared.Stepped.{Stepped}
 use Rattle.iter.specs.declared.Sought.{Sought}
 use Rattle.iter.specs.Walk.{lookupNumber}
 use Rattle.iter.specs.Cursor.{soughtNumber, stepNumber}
+use Rattle.lines.specs.declared.Parsed.{Parsed}
+use Rattle.lines.specs.Parses.{parsedNumber, parsedLength, Parses}
+use Rattle.cikolaro.specs.Contract.{RunsLines}
 
 -- Of store bytes s and a count n: the number r, and the bytes t afterwards.
 pub record FormatsBy (s : List ℕ) (n r : ℕ) (t : List ℕ) : Type 0 where
@@ -44,6 +48,23 @@ pub record AuditsBy (s ms : List ℕ) (r : ℕ) (ns : List ℕ) (reached : ℕ) 
 pub record BatchesBy (s ms q : List ℕ) (r : ℕ) (t ns : List ℕ) (applied : ℕ) : Type 0 where
   pub answer : Batched
   pub batches : Batches s ms q answer t ns
+  pub number : r ≡ answerNumber (answer .answer)
+  pub count : applied ≡ answer .applied
+
+-- ---- house lines
+
+-- Of a text and a lent record buffer: the number r, the buffer afterwards, and how many bytes the records have, 0 if refused.
+pub record ParsesBy (text buffer : List ℕ) (r : ℕ) (left : List ℕ) (len : ℕ) : Type 0 where
+  pub answer : Parsed
+  pub parses : Parses text buffer answer left
+  pub number : r ≡ parsedNumber answer
+  pub length-is : len ≡ parsedLength answer
+
+-- Of store bytes s, lent words ms, a lent record buffer and a text: the number r, the store t, the words ns and the buffer
+-- afterwards, and "records applied".
+pub record RunsLinesBy (s ms buffer text : List ℕ) (r : ℕ) (t ns left : List ℕ) (applied : ℕ) : Type 0 where
+  pub answer : Batched
+  pub runs : RunsLines s ms buffer text answer t ns left
   pub number : r ≡ answerNumber (answer .answer)
   pub count : applied ≡ answer .applied
 
@@ -148,3 +169,14 @@ pub record ReadsSeparator (p : Places) (i r start len value : ℕ) : Type 0 wher
   pub start-is : start ≡ within 7 (p .starts) i 0
   pub length-is : len ≡ within 7 (p .lens) i 0
   pub value-is : value ≡ within 7 (p .values) i (valueOf 0) .0
+
+-- The node that lies in lent numbers and bytes, whatever they hold.
+abbrev pub lentNode : ℕ → List ℕ → List ℕ → List ℕ → List ℕ → Node
+lentNode count children values lens keys = record { count = count; children = map childOf children; values = map valueOf values; lens = lens; keys = keys }
+
+-- Of a node n and a destination d: the number r, "Writing: 16, 4 for any separator, 5 for any, 10", the destination afterwards, and
+-- "its length (0 if refused)".
+pub record WritesNode (n : Node) (d : List ℕ) (r : ℕ) (left : List ℕ) (written : ℕ) : Type 0 where
+  pub number : r ≡ writtenNumber (writtenOf n d)
+  pub bytes : left ≡ leftBy (writtenOf n d) n d
+  pub length-is : written ≡ writtenLength (writtenOf n d)

@@ -1,22 +1,26 @@
 // The store for programs in C and Rust: its functions on numbers and lent slices. Each passes on what the function that it calls
 // answers. Nothing is decided here but how an answer and a cursor lie in lent numbers.
 ghost use mathlib.Core.Path.{_≡_};
+ghost use mathlib.Core.List.{map};
 ghost use Rattle.node.specs.Layout.{valueOf, childOf, placesOf};
 ghost use Rattle.iter.specs.Walk.{lookupOf};
 ghost use Rattle.iter.specs.Cursor.{soughtOf, forwardOf, backwardOf};
-ghost use Rattle.capi.specs.Face.{FormatsBy, AuditsBy, BatchesBy, presentOf, foundValue, LooksUp, kindOf, lengthOf, placeOf, cursorOf, Holds, Seeks, entryOf, entryValue, Steps, within, ReadsNode, ReadsSeparator};
+ghost use Rattle.capi.specs.Face.{FormatsBy, AuditsBy, BatchesBy, ParsesBy, RunsLinesBy, presentOf, foundValue, LooksUp, kindOf, lengthOf, placeOf, cursorOf, Holds, Seeks, entryOf, entryValue, Steps, within, ReadsNode, ReadsSeparator, lentNode, WritesNode};
 use iter::Cursor;
 use iter::LookedUp;
 use iter::Place;
 use iter::Step;
 use iter::Stepped;
+use node::Child;
+use node::Node;
 use node::Places;
+use node::Value;
 
 #[no_mangle]
 pub extern "C" fn cikolaro_format(store: &mut [u8], count: u32) -> u32
     ensures { λ r. ⌜ FormatsBy (now (store .entry)) count r (now (store .exit)) ⌝ }
 {
-    let formatted = slots::format(store, count);
+    let formatted = cikolaro::format(store, count);
     formatted.number()
 }
 
@@ -24,7 +28,7 @@ pub extern "C" fn cikolaro_format(store: &mut [u8], count: u32) -> u32
 pub extern "C" fn cikolaro_audit(store: &[u8], marks: &mut [u64], reached: &mut usize) -> u32
     ensures { λ r. ⌜ AuditsBy (now (store .entry)) (now (marks .entry)) r (now (marks .exit)) (now (reached .exit)) ⌝ }
 {
-    let verdict = audit::audit(store, marks);
+    let verdict = cikolaro::audit(store, marks);
     *reached = verdict.reached();
     verdict.number()
 }
@@ -38,9 +42,36 @@ pub extern "C" fn cikolaro_batch(
 ) -> u32
     ensures { λ r. ⌜ BatchesBy (now (store .entry)) (now (marks .entry)) (now (records .entry)) r (now (store .exit)) (now (marks .exit)) (now (applied .exit)) ⌝ }
 {
-    let batched = batch::batch(store, marks, records);
+    let batched = cikolaro::batch(store, marks, records);
     *applied = batched.applied;
     let answer = batched.answer;
+    answer.number()
+}
+
+// ---- house lines
+
+#[no_mangle]
+pub extern "C" fn cikolaro_parse(text: &[u8], records: &mut [u8], len: &mut usize) -> u32
+    ensures { λ r. ⌜ ParsesBy (now (text .entry)) (now (records .entry)) r (now (records .exit)) (now (len .exit)) ⌝ }
+{
+    let parsed = cikolaro::parse(text, records);
+    *len = parsed.length();
+    parsed.number()
+}
+
+#[no_mangle]
+pub extern "C" fn cikolaro_run_lines(
+    store: &mut [u8],
+    marks: &mut [u64],
+    records: &mut [u8],
+    text: &[u8],
+    applied: &mut usize,
+) -> u32
+    ensures { λ r. ⌜ RunsLinesBy (now (store .entry)) (now (marks .entry)) (now (records .entry)) (now (text .entry)) r (now (store .exit)) (now (marks .exit)) (now (records .exit)) (now (applied .exit)) ⌝ }
+{
+    let ran = cikolaro::run_lines(store, marks, records, text);
+    *applied = ran.applied;
+    let answer = ran.answer;
     answer.number()
 }
 
@@ -79,7 +110,7 @@ pub extern "C" fn cikolaro_lookup(
 ) -> u32
     ensures { λ r. ⌜ LooksUp (lookupOf (now (store .entry)) (now (key .entry))) r (now (present .exit)) (now (value .exit)) ⌝ }
 {
-    let looked = iter::lookup(store, key);
+    let looked = cikolaro::lookup(store, key);
     *present = is_found(looked);
     *value = found_value(looked);
     looked.number()
@@ -161,7 +192,7 @@ pub extern "C" fn cikolaro_seek(
 ) -> u32
     ensures { λ r. ⌜ Seeks (soughtOf (now (key .entry))) (now (kind .entry)) (now (len .entry)) (now (held .entry)) r (now (kind .exit)) (now (len .exit)) (now (held .exit)) ⌝ }
 {
-    let sought = iter::seek(key);
+    let sought = cikolaro::seek(key);
     let number = sought.number();
     leave(number, sought.cursor, kind, len, held);
     number
@@ -223,7 +254,7 @@ pub extern "C" fn cikolaro_forward(
 {
     let place = place_of(*kind, *len);
     let key = *held;
-    let stepped = iter::forward(
+    let stepped = cikolaro::forward(
         store,
         Cursor {
             place: place,
@@ -244,12 +275,12 @@ pub extern "C" fn cikolaro_backward(
 ) -> u32
     ensures { λ r. ⌜ Steps (backwardOf (now (store .entry)) (cursorOf (now (kind .entry)) (now (len .entry)) (now (held .entry)))) (now (kind .entry)) (now (len .entry)) (now (held .entry)) r (now (kind .exit)) (now (len .exit)) (now (held .exit)) (now (present .exit)) (now (value .exit)) ⌝ }
 {
-    let place = place_of(*kind, *len);
+    let from = place_of(*kind, *len);
     let key = *held;
-    let stepped = iter::backward(
+    let stepped = cikolaro::backward(
         store,
         Cursor {
-            place: place,
+            place: from,
             key: key,
         },
     );
@@ -331,6 +362,69 @@ pub extern "C" fn cikolaro_node_separator(
     *start = start_at(places, index);
     *len = length_at(places, index);
     *value = value_at(places, index);
-    let ending = places.ending;
-    ending.number()
+    let ended = places.ending;
+    ended.number()
+}
+
+// ---- a node to be written
+
+fn children_of(addresses: [u64; 9]) -> [Child; 9]
+    ensures { λ r. ⌜ r ≡ map childOf addresses ⌝ }
+{
+    [
+        Child(addresses[0]),
+        Child(addresses[1]),
+        Child(addresses[2]),
+        Child(addresses[3]),
+        Child(addresses[4]),
+        Child(addresses[5]),
+        Child(addresses[6]),
+        Child(addresses[7]),
+        Child(addresses[8]),
+    ]
+}
+
+fn values_of(addresses: [u64; 8]) -> [Value; 8]
+    ensures { λ r. ⌜ r ≡ map valueOf addresses ⌝ }
+{
+    [
+        Value(addresses[0]),
+        Value(addresses[1]),
+        Value(addresses[2]),
+        Value(addresses[3]),
+        Value(addresses[4]),
+        Value(addresses[5]),
+        Value(addresses[6]),
+        Value(addresses[7]),
+    ]
+}
+
+#[no_mangle]
+pub extern "C" fn cikolaro_node_write(
+    count: usize,
+    children: &[u64; 9],
+    values: &[u64; 8],
+    lens: &[usize; 8],
+    keys: &[u8; 2304],
+    dst: &mut [u8],
+    written: &mut usize,
+) -> u32
+    ensures { λ r. ⌜ WritesNode (lentNode count (now (children .entry)) (now (values .entry)) (now (lens .entry)) (now (keys .entry))) (now (dst .entry)) r (now (dst .exit)) (now (written .exit)) ⌝ }
+{
+    let held_children = children_of(*children);
+    let held_values = values_of(*values);
+    let held_lens = *lens;
+    let held_keys = *keys;
+    let wrote = cikolaro::write(
+        Node {
+            count: count,
+            children: held_children,
+            values: held_values,
+            lens: held_lens,
+            keys: held_keys,
+        },
+        dst,
+    );
+    *written = wrote.length();
+    wrote.number()
 }

@@ -78,7 +78,8 @@ fn is_misfit(child: Child, leaf: bool) -> bool
 }
 
 impl Sight {
-    fn start(good: bool) -> Sight
+    // Before the first child; or, not good, what is seen of bytes that are refused.
+    pub fn start(good: bool) -> Sight
         ensures { λ r. ⌜ r ≡ emptySight good ⌝ }
     {
         Sight {

@@ -6,16 +6,17 @@ use mathlib.Core.Bool.{Bool, true, false, _&&_, not}
 use Prim.Native.Nat.{ℕ, zero, suc, _+_}
 use lib.ListN.{take}
 use lib.Dec.{eqb, eqb·suc-zero}
-use Rattle.word.specs.Pick.{pickT, by-test}
+use Rattle.word.specs.Pick.{pick, pickT, by-test}
+use Rattle.word.specs.At.{fitsIn}
 use Rattle.word.specs.Key.{Key}
 use Rattle.node.specs.declared.Child.{Child}
 use Rattle.node.specs.declared.Places.{Places}
 use Rattle.node.specs.declared.search.Turn.{Turn}
 use Rattle.node.specs.declared.search.Sight.{Sight}
-use Rattle.node.specs.Codec.{isAccepted}
+use Rattle.node.specs.Codec.{isAccepted, scanFrom}
 use Rattle.node.specs.Layout.{layout, placesOf, anyOf}
 use Rattle.node.specs.Search as node
-use Rattle.node.specs.Search.{sightOf, Sees, fitsPlaces}
+use Rattle.node.specs.Search.{emptySight, sightIn, sightOf, Sees, fitsPlaces}
 use Rattle.node.proofs.SearchLaws.{sight-good, sight-sees}
 use Rattle.slots.specs.Code.{bytesIn, placesIn, misfits, childrenFit, fitsDepth, placesAt}
 use Rattle.slots.specs.Search.{sightAt, SeesAt}
@@ -36,6 +37,11 @@ unfolding fitsDepth childrenFit fitsPlaces
 fits-same d p = ap not (any-same (misfits d) (node.misfits (eqb d 0)) (misfits-same d) (take (p .count + 1) (p .children)))
 
 -- ---- what is seen in a slot
+
+-- of no bytes nothing
+sight-none : (t : Turn) (leaf : Bool) (k : Key) → sightOf t leaf [] k ≡ emptySight false
+unfolding sightOf sightIn scanFrom fitsIn pick
+sight-none t leaf k = refl
 
 and-true : (a b : Bool) → b ≡ true → (a && b) ≡ a
 and-true true b e = e
@@ -83,3 +89,6 @@ module _ (t : Turn) (d : ℕ) (s : List ℕ) (x : ℕ) (k : Key) where
   pub search-at : {b : List ℕ} {v : Sight} → b ≡ bytesIn s x → v ≡ sightOf t (eqb d 0) b k → v ≡ sightAt t d s x k
   unfolding sightAt
   search-at p q = q ∙ ap (λ (b : List ℕ). sightOf t (eqb d 0) b k) p
+
+  pub nothing-seen : {v : Sight} → [] ≡ bytesIn s x → v ≡ emptySight false → v ≡ sightAt t d s x k
+  nothing-seen p q = search-at p (q ∙ sym (sight-none t (eqb d 0) k))

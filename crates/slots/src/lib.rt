@@ -235,11 +235,26 @@ pub fn read_node_at(store: &[u8], child: Child, depth: u32) -> Reading
 }
 
 // What a walk for a key sees in the node of a child at a depth; not good where there is none, or its children don't fit the
-// depth.
+// depth. The tests are those of `node_bytes`; each ends the search at once, so that a processor reads on in the node before its
+// length has come from memory.
 pub fn search_at(store: &[u8], child: Child, depth: u32, key: &[u8], turn: Turn) -> Sight
     ensures { λ r. ⌜ r ≡ sightAt turn depth (now (store .entry)) (child .0) (now (key .entry)) ⌝ }
 {
-    node::search::search(node_bytes(store, child), key, turn, depth == 0)
+    let slot = slot_of(store, child);
+    if slot.0 == 0 {
+        return Sight::start(false);
+    }
+    let at = start_of(slot);
+    let len = word::read_u32(store, at) as usize;
+    if len < LEAST_NODE {
+        return Sight::start(false);
+    }
+    if MOST_NODE < len {
+        return Sight::start(false);
+    }
+    let from = at + 4;
+    let to = from + len;
+    node::search::search(&store[from..to], key, turn, depth == 0)
 }
 
 // ---- writing, taking and freeing

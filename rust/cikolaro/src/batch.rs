@@ -13,7 +13,7 @@
 /// assert_eq!(store.get(b"k")?, Some(3));
 /// # Ok::<(), cikolaro::Error>(())
 /// ```
-#[derive(Clone, Debug, Default)]
+#[derive(Clone, Debug, Default, PartialEq, Eq)]
 pub struct Batch {
     changes: Vec<(Vec<u8>, Option<u64>)>,
 }
@@ -45,6 +45,39 @@ impl Batch {
 
     pub fn clear(&mut self) {
         self.changes.clear();
+    }
+
+    /// The changes of another batch behind these.
+    ///
+    /// ```
+    /// use cikolaro::{lines, Batch};
+    ///
+    /// let mut batch = Batch::new();
+    /// batch.set(b"a", 1).append(lines::parse(b"del\t62\n").unwrap());
+    /// assert_eq!(batch.len(), 2);
+    /// ```
+    pub fn append(&mut self, other: Batch) -> &mut Batch {
+        self.changes.extend(other.changes);
+        self
+    }
+
+    /// The changes that records say which the proved parser has written: none is cut short.
+    pub(crate) fn of_records(records: &[u8]) -> Batch {
+        let mut batch = Batch::new();
+        let mut rest = records;
+        while let [kind, low, high, behind @ ..] = rest {
+            let (value, behind) = behind.split_first_chunk().expect("a value");
+            let (key, behind) = behind.split_at(usize::from(u16::from_le_bytes([*low, *high])));
+            batch.changes.push((key.to_vec(), (*kind == 1).then_some(u64::from_le_bytes(*value))));
+            rest = behind;
+        }
+        batch
+    }
+
+    /// The key, where there is one change.
+    pub(crate) fn only_key(mut self) -> Option<Vec<u8>> {
+        let (key, _) = self.changes.pop()?;
+        self.changes.is_empty().then_some(key)
     }
 
     /// The records as 01 has them, sorted by key. Changes of one key stay in the order in which they were given.

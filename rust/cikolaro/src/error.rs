@@ -14,7 +14,7 @@ pub enum Refusal {
     Short = 3,
     /// A key, or a cursor's length, over 288 bytes.
     LongKey = 4,
-    /// A set with value 0.
+    /// A set, or a separator to be written, with value 0.
     BadValue = 5,
     /// A key below the one before.
     Falls = 6,
@@ -24,13 +24,17 @@ pub enum Refusal {
     Fails = 8,
     /// Too few free slots.
     NoRoom = 9,
+    /// The destination is too short for a node. This crate lends enough, so nothing here answers it.
+    ShortDestination = 10,
     /// A bad text line, or too much text.
     BadText = 15,
+    /// More than 8 separators in a node that is to be written.
+    TooManySeparators = 16,
 }
 
 impl Refusal {
     /// All of them, by number.
-    pub const ALL: [Refusal; 10] = [
+    pub const ALL: [Refusal; 12] = [
         Refusal::NotStore,
         Refusal::FewMarks,
         Refusal::Short,
@@ -40,7 +44,9 @@ impl Refusal {
         Refusal::TooMany,
         Refusal::Fails,
         Refusal::NoRoom,
+        Refusal::ShortDestination,
         Refusal::BadText,
+        Refusal::TooManySeparators,
     ];
 
     /// 01's number.
@@ -69,7 +75,9 @@ impl Refusal {
             Refusal::TooMany => "more than 65,535 records in one batch",
             Refusal::Fails => "the store fails its audit",
             Refusal::NoRoom => "no room: too few free slots",
+            Refusal::ShortDestination => "the destination is too short for the node",
             Refusal::BadText => "a bad line, or more text than one batch takes",
+            Refusal::TooManySeparators => "a node has more than 8 separators",
         }
     }
 }

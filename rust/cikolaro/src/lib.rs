@@ -36,6 +36,12 @@ pub use store::{Audit, Store};
 /// The longest key, in bytes.
 pub const LONGEST_KEY: usize = 288;
 
+/// The most separators that a node has.
+pub const MOST_SEPARATORS: usize = 8;
+
+/// The longest node in standard form, in bytes.
+pub const LONGEST_NODE: usize = 2_480;
+
 /// The most slots that a store has.
 pub const MOST_SLOTS: u32 = 65_535;
 

@@ -1,9 +1,33 @@
-//! 01's house lines: `set` TAB key in lowercase hex TAB decimal, or `del` TAB key; each ends in LF.
+//! 01's house lines: `set` TAB key in lowercase hex TAB decimal, or `del` TAB key; each ends in LF. The proved parser reads them.
 
-use crate::{Batch, Refusal};
+use crate::error::done;
+use crate::{raw, Batch, Refusal};
 
 /// The most text that is one batch.
 pub const MOST_TEXT: usize = 16_384;
+
+/// How many bytes the records of so much text have at most. The shortest line, `del` TAB LF, is a record of 11 bytes; two more bytes
+/// of text are at most one more byte of key. More text than one batch takes is refused, whatever the room.
+pub(crate) const fn most_record_bytes(text: usize) -> usize {
+    let text = if text < MOST_TEXT { text } else { MOST_TEXT };
+    11 * (text / 5) + text % 5 / 2
+}
+
+/// The records that a text says, in its order, as 01 has them; 15 for a bad line or too much text.
+///
+/// ```
+/// use cikolaro::{lines, Refusal};
+///
+/// assert_eq!(lines::records(b"del\t62\n").unwrap(), [2, 1, 0, 0, 0, 0, 0, 0, 0, 0, 0, 0x62]);
+/// assert_eq!(lines::records(b"del\t62").unwrap_err(), Refusal::BadText);
+/// ```
+pub fn records(text: &[u8]) -> Result<Vec<u8>, Refusal> {
+    let mut records = vec![0; most_record_bytes(text.len())];
+    let (number, length) = raw::parse(text, &mut records);
+    done(number)?;
+    records.truncate(length);
+    Ok(records)
+}
 
 /// The changes of a text, in its order; 15 for a bad line or too much text.
 ///
@@ -14,54 +38,21 @@ pub const MOST_TEXT: usize = 16_384;
 /// assert_eq!(lines::parse(b"set\t61\t05\n").unwrap_err(), Refusal::BadText);
 /// ```
 pub fn parse(text: &[u8]) -> Result<Batch, Refusal> {
-    if text.len() > MOST_TEXT {
-        return Err(Refusal::BadText);
-    }
-    let mut batch = Batch::new();
-    let mut rest = text;
-    while !rest.is_empty() {
-        let end = rest.iter().position(|&b| b == b'\n').ok_or(Refusal::BadText)?;
-        parse_line(&rest[..end], &mut batch)?;
-        rest = &rest[end + 1..];
-    }
-    Ok(batch)
-}
-
-/// One line without its LF, as a change of the batch.
-pub fn parse_line(line: &[u8], batch: &mut Batch) -> Result<(), Refusal> {
-    let fields: Vec<&[u8]> = line.split(|&b| b == b'\t').collect();
-    match fields[..] {
-        [b"set", key, value] => batch.set(parse_key(key)?, parse_value(value)?),
-        [b"del", key] => batch.remove(parse_key(key)?),
-        _ => return Err(Refusal::BadText),
-    };
-    Ok(())
-}
-
-fn digit(b: u8) -> Result<u8, Refusal> {
-    match b {
-        b'0'..=b'9' => Ok(b - b'0'),
-        b'a'..=b'f' => Ok(b - b'a' + 10),
-        _ => Err(Refusal::BadText),
-    }
+    Ok(Batch::of_records(&records(text)?))
 }
 
 /// A key in lowercase hex; the empty text is the empty key.
+///
+/// ```
+/// use cikolaro::{lines, Refusal};
+///
+/// assert_eq!(lines::parse_key(b"6162").unwrap(), b"ab");
+/// assert_eq!(lines::parse_key(b"61\n").unwrap_err(), Refusal::BadText);
+/// ```
 pub fn parse_key(hex: &[u8]) -> Result<Vec<u8>, Refusal> {
-    if !hex.len().is_multiple_of(2) {
-        return Err(Refusal::BadText);
-    }
-    hex.chunks(2).map(|pair| Ok(digit(pair[0])? * 16 + digit(pair[1])?)).collect()
-}
-
-/// "no signs or leading zeros; a lone 0 is a value".
-fn parse_value(decimal: &[u8]) -> Result<u64, Refusal> {
-    let padded = decimal.len() > 1 && decimal[0] == b'0';
-    if decimal.is_empty() || padded || !decimal.iter().all(u8::is_ascii_digit) {
-        return Err(Refusal::BadText);
-    }
-    let text = std::str::from_utf8(decimal).expect("digits");
-    text.parse().map_err(|_| Refusal::BadText)
+    let line = [b"del\t", hex, b"\n"].concat();
+    // A text that has an LF of its own is more than one line.
+    parse(&line)?.only_key().ok_or(Refusal::BadText)
 }
 
 /// A key in lowercase hex.
@@ -105,11 +96,29 @@ mod tests {
     }
 
     #[test]
-    fn too_much_text_is_refused() {
-        let line = b"del\t6161\n";
-        let mut text = line.repeat(MOST_TEXT / line.len());
-        assert!(parse(&text).is_ok());
-        text.extend(line);
+    fn a_batch_has_what_the_lines_say() {
+        let text = b"set\t62\t18446744073709551615\ndel\t61ff\nset\t\t0\n";
+        let mut batch = Batch::new();
+        batch.set(b"b", u64::MAX).remove([0x61, 0xFF]).set(b"", 0);
+        assert_eq!(parse(text).unwrap(), batch);
+        assert_eq!(records(text).unwrap(), batch.encode_as_given());
+    }
+
+    #[test]
+    fn the_most_text_fits() {
+        let mut text = b"del\t\n".repeat(MOST_TEXT / 5 - 1);
+        text.extend(b"del\t6161\n");
+        assert_eq!(text.len(), MOST_TEXT);
+        assert_eq!(records(&text).unwrap().len(), most_record_bytes(MOST_TEXT));
+        text.extend(b"del\t\n");
         assert!(refused(&text));
+    }
+
+    #[test]
+    fn a_key_is_one_field() {
+        assert_eq!(parse_key(b""), Ok(Vec::new()));
+        for hex in [&b"6"[..], b"6A", b"61\t5", b"\n", b"61\ndel\t62", b"61\nset\t62\t1234567890123456"] {
+            assert_eq!(parse_key(hex), Err(Refusal::BadText), "{hex:?}");
+        }
     }
 }

@@ -1,7 +1,7 @@
 //! The exported functions as they are, with 01's numbers: for callers that lend marks and cursors themselves. include/cikolaro.h says
 //! what each answers and leaves. They ask nothing of a caller but what Rust's references say, so no test stands before a call.
 
-use crate::LONGEST_KEY;
+use crate::{LONGEST_KEY, MOST_SEPARATORS};
 
 extern "C" {
     fn cikolaro_format(store: *mut u8, store_len: usize, count: u32) -> u32;
@@ -48,6 +48,24 @@ extern "C" {
         present: *mut u32,
         value: *mut u64,
     ) -> u32;
+    fn cikolaro_parse(
+        text: *const u8,
+        text_len: usize,
+        records: *mut u8,
+        records_len: usize,
+        length: *mut usize,
+    ) -> u32;
+    fn cikolaro_run_lines(
+        store: *mut u8,
+        store_len: usize,
+        marks: *mut u64,
+        marks_len: usize,
+        records: *mut u8,
+        records_len: usize,
+        text: *const u8,
+        text_len: usize,
+        applied: *mut usize,
+    ) -> u32;
     fn cikolaro_node_read(bytes: *const u8, bytes_len: usize, count: *mut usize) -> u32;
     fn cikolaro_node_child(bytes: *const u8, bytes_len: usize, index: usize) -> u64;
     fn cikolaro_node_separator(
@@ -58,6 +76,16 @@ extern "C" {
         length: *mut usize,
         value: *mut u64,
     ) -> u32;
+    fn cikolaro_node_write(
+        count: usize,
+        children: *const u64,
+        values: *const u64,
+        lengths: *const usize,
+        keys: *const u8,
+        destination: *mut u8,
+        destination_len: usize,
+        written: *mut usize,
+    ) -> u32;
 }
 
 /// A cursor as it is lent: kind 0 Start, 1 End, 2 At, 3 Seeked.
@@ -66,6 +94,36 @@ pub struct Lent {
     pub kind: u32,
     pub length: usize,
     pub key: [u8; LONGEST_KEY],
+}
+
+/// A node as it is lent: the key of separator i is the first `lengths[i]` bytes from 288 * i on. What no separator uses is dropped.
+#[derive(Clone, Debug, PartialEq, Eq)]
+pub struct LentNode {
+    pub count: usize,
+    pub children: [u64; MOST_SEPARATORS + 1],
+    pub values: [u64; MOST_SEPARATORS],
+    pub lengths: [usize; MOST_SEPARATORS],
+    pub keys: [u8; LONGEST_KEY * MOST_SEPARATORS],
+}
+
+impl LentNode {
+    /// The node of these children and separators, as far as it can be lent: what is too much the writer refuses by its count or length.
+    pub fn of(children: &[u64], separators: &[(Vec<u8>, u64)]) -> LentNode {
+        let mut node = LentNode {
+            count: separators.len(),
+            children: [0; MOST_SEPARATORS + 1],
+            values: [0; MOST_SEPARATORS],
+            lengths: [0; MOST_SEPARATORS],
+            keys: [0; LONGEST_KEY * MOST_SEPARATORS],
+        };
+        node.children.iter_mut().zip(children).for_each(|(to, child)| *to = *child);
+        for (at, (key, value)) in separators.iter().take(MOST_SEPARATORS).enumerate() {
+            node.values[at] = *value;
+            node.lengths[at] = key.len();
+            node.keys[LONGEST_KEY * at..][..LONGEST_KEY].iter_mut().zip(key).for_each(|(to, byte)| *to = *byte);
+        }
+        node
+    }
 }
 
 /// A number, and the value where there is one.
@@ -104,6 +162,41 @@ pub fn batch(store: &mut [u8], marks: &mut [u64], records: &[u8]) -> (u32, usize
             marks.len(),
             records.as_ptr(),
             records.len(),
+            &mut applied,
+        )
+    };
+    (number, applied)
+}
+
+/// The number, and how many bytes at the front of `records` are the records that the house lines say.
+///
+/// ```
+/// let mut records = [7; 20];
+/// assert_eq!(cikolaro::raw::parse(b"set\t61\t5\n", &mut records), (0, 12));
+/// assert_eq!(records[..12], [1, 1, 0, 5, 0, 0, 0, 0, 0, 0, 0, 0x61]);
+/// assert_eq!(records[12..], [0; 8]);
+/// ```
+pub fn parse(text: &[u8], records: &mut [u8]) -> (u32, usize) {
+    let mut length = 0;
+    // SAFETY: the text is borrowed for reading, the records and the length for writing, for the call.
+    let number = unsafe { cikolaro_parse(text.as_ptr(), text.len(), records.as_mut_ptr(), records.len(), &mut length) };
+    (number, length)
+}
+
+/// The number, and how many records are applied.
+pub fn run_lines(store: &mut [u8], marks: &mut [u64], records: &mut [u8], text: &[u8]) -> (u32, usize) {
+    let mut applied = 0;
+    // SAFETY: store, marks, records and count are borrowed for writing, the text for reading, for the call.
+    let number = unsafe {
+        cikolaro_run_lines(
+            store.as_mut_ptr(),
+            store.len(),
+            marks.as_mut_ptr(),
+            marks.len(),
+            records.as_mut_ptr(),
+            records.len(),
+            text.as_ptr(),
+            text.len(),
             &mut applied,
         )
     };
@@ -182,4 +275,35 @@ pub fn node_separator(bytes: &[u8], index: usize) -> (&[u8], u64) {
     // SAFETY: the bytes are borrowed for reading, the three numbers for writing, for the call.
     unsafe { cikolaro_node_separator(bytes.as_ptr(), bytes.len(), index, &mut start, &mut length, &mut value) };
     (&bytes[start..start + length], value)
+}
+
+/// The number, and how many bytes of the destination the node's standard form takes, 0 if refused.
+///
+/// ```
+/// use cikolaro::raw::{self, LentNode};
+///
+/// let node = LentNode::of(&[], &[(b"ab".to_vec(), 5)]);
+/// let mut bytes = [7; 30];
+/// assert_eq!(raw::node_write(&node, &mut bytes), (0, 27));
+/// assert_eq!(raw::node_separator(&bytes[..27], 0), (&b"ab"[..], 5));
+/// assert_eq!(bytes[27..], [7; 3]);
+/// assert_eq!(raw::node_write(&node, &mut bytes[..26]), (10, 0));
+/// ```
+pub fn node_write(node: &LentNode, destination: &mut [u8]) -> (u32, usize) {
+    let mut written = 0;
+    // SAFETY: the node's arrays, which have 9, 8, 8 and 2,304 elements, are borrowed for reading, the destination and the length for
+    // writing, for the call.
+    let number = unsafe {
+        cikolaro_node_write(
+            node.count,
+            node.children.as_ptr(),
+            node.values.as_ptr(),
+            node.lengths.as_ptr(),
+            node.keys.as_ptr(),
+            destination.as_mut_ptr(),
+            destination.len(),
+            &mut written,
+        )
+    };
+    (number, written)
 }

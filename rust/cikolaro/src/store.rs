@@ -1,6 +1,7 @@
 //! A store in bytes that are owned or borrowed.
 
 use crate::error::done;
+use crate::lines::most_record_bytes;
 use crate::{mark_words, raw, store_size, Batch, Cursor, Entries, Error, Refusal, MOST_SLOTS};
 
 /// A store over its bytes: a `Vec<u8>`, or a borrowed `&mut [u8]`.
@@ -158,10 +159,30 @@ impl<B: AsRef<[u8]> + AsMut<[u8]>> Store<B> {
     /// Applies records as 01 has them.
     pub fn apply_records(&mut self, records: &[u8]) -> Result<usize, Error> {
         let mut marks = vec![0; mark_words(self.count().min(MOST_SLOTS))];
-        let (number, applied) = raw::batch(self.bytes.as_mut(), &mut marks, records);
-        match done(number) {
-            Ok(()) => Ok(applied),
-            Err(refusal) => Err(Error { refusal, applied }),
-        }
+        ran(raw::batch(self.bytes.as_mut(), &mut marks, records))
+    }
+
+    /// Runs house lines as one batch, in their order: refused with 15 for a bad line or too much text, else as [`Store::apply`] is.
+    ///
+    /// ```
+    /// # use cikolaro::{Error, Refusal, Store};
+    /// let mut store = Store::new(25)?;
+    /// assert_eq!(store.run_lines(b"set\t61\t5\nset\t62\t7\n")?, 2);
+    /// assert_eq!(store.get(b"b")?, Some(7));
+    /// assert_eq!(store.run_lines(b"del\t61"), Err(Error { refusal: Refusal::BadText, applied: 0 }));
+    /// # Ok::<(), Error>(())
+    /// ```
+    pub fn run_lines(&mut self, text: &[u8]) -> Result<usize, Error> {
+        let mut marks = vec![0; mark_words(self.count().min(MOST_SLOTS))];
+        let mut records = vec![0; most_record_bytes(text.len())];
+        ran(raw::run_lines(self.bytes.as_mut(), &mut marks, &mut records, text))
+    }
+}
+
+/// How many records were applied, where the number is 0.
+fn ran((number, applied): (u32, usize)) -> Result<usize, Error> {
+    match done(number) {
+        Ok(()) => Ok(applied),
+        Err(refusal) => Err(Error { refusal, applied }),
     }
 }

@@ -1,6 +1,9 @@
-//! The tree of an audited store, to look at. This is Rust and not proved; it reads only what the proved audit has passed.
+//! The tree of an audited store, to look at. This is Rust and not proved; it reads only what the proved audit has passed. A node's
+//! bytes are written by the proved writer.
 
-use crate::{Refusal, Store, HEADER_SIZE, SLOT_SIZE};
+use crate::error::done;
+use crate::raw::{self, LentNode};
+use crate::{Refusal, Store, HEADER_SIZE, LONGEST_NODE, SLOT_SIZE};
 
 /// A node and what stands below it.
 #[derive(Clone, Debug, PartialEq, Eq)]
@@ -25,6 +28,26 @@ impl Node {
     /// How many nodes there are from here down.
     pub fn nodes(&self) -> usize {
         1 + self.children.iter().map(Node::nodes).sum::<usize>()
+    }
+
+    /// The node's own bytes, in standard form: those that its slot holds. A node that no slot holds may be refused with 16, 4 or 5.
+    ///
+    /// ```
+    /// use cikolaro::{view::Node, Refusal};
+    ///
+    /// let mut leaf = Node { slot: 1, separators: vec![(b"ab".to_vec(), 5)], children: vec![] };
+    /// assert_eq!(leaf.bytes()?.len(), 27);
+    /// leaf.separators[0].1 = 0;
+    /// assert_eq!(leaf.bytes().unwrap_err(), Refusal::BadValue);
+    /// # Ok::<(), Refusal>(())
+    /// ```
+    pub fn bytes(&self) -> Result<Vec<u8>, Refusal> {
+        let children: Vec<u64> = self.children.iter().map(|child| u64::from(child.slot)).collect();
+        let mut bytes = vec![0; LONGEST_NODE];
+        let (number, length) = raw::node_write(&LentNode::of(&children, &self.separators), &mut bytes);
+        done(number)?;
+        bytes.truncate(length);
+        Ok(bytes)
     }
 
     /// Calls f with each node and how far it is below this one, parents first.

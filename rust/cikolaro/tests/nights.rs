@@ -90,3 +90,48 @@ fn set_and_removed_in_one_batch_is_an_empty_root() {
     assert_eq!(tree(&store).unwrap().root.unwrap().separators, []);
     assert_eq!(store.audit().unwrap().reached, 1);
 }
+
+#[test]
+fn a_written_node_is_what_its_slot_holds() {
+    let mut batch = Batch::new();
+    for key in 1..=200u8 {
+        batch.set(vec![key; usize::from(key) + 60], u64::from(key));
+    }
+    let mut store = Store::new(100).unwrap();
+    assert_eq!(store.apply(&batch), Ok(200));
+    let mut nodes = 0;
+    tree(&store).unwrap().root.unwrap().visit(0, &mut |node, _| {
+        let bytes = node.bytes().unwrap();
+        let at = 24 + 2560 * (node.slot as usize - 1);
+        assert_eq!(bytes.len() as u32, node_length(&store, node.slot as usize));
+        assert_eq!(bytes, store.bytes()[at + 4..at + 4 + bytes.len()]);
+        nodes += 1;
+    });
+    assert_eq!(nodes, store.audit().unwrap().reached);
+}
+
+#[test]
+fn a_node_that_is_too_much_is_refused() {
+    let leaf = |separators| Node { slot: 1, separators, children: Vec::new() };
+    assert_eq!(leaf(vec![(vec![1], 1); 9]).bytes(), Err(Refusal::TooManySeparators));
+    assert_eq!(leaf(vec![(vec![1; 289], 0)]).bytes(), Err(Refusal::LongKey));
+    assert_eq!(leaf(vec![(vec![1; 288], 1), (vec![], 0)]).bytes(), Err(Refusal::BadValue));
+    assert_eq!(leaf(vec![(vec![1; 288], 1); 8]).bytes().unwrap().len(), cikolaro::LONGEST_NODE);
+}
+
+#[test]
+fn lines_are_one_batch_in_their_order() {
+    let mut store = Store::new(3).unwrap();
+    assert_eq!(store.run_lines(b"set\t61\t5\nset\t62\t7\ndel\t62\n"), Ok(3));
+    let before = store.bytes().to_vec();
+    for (text, refusal) in [
+        (&b"set\t62\t1\nset\t61\t1\n"[..], Refusal::Falls),
+        (b"set\t62\t0\n", Refusal::BadValue),
+        (b"set\t62\t0\nset\n", Refusal::BadText),
+    ] {
+        assert_eq!(store.run_lines(text), Err(refusal.into()));
+        assert_eq!(store.bytes(), before);
+    }
+    assert_eq!(store.get(b"a"), Ok(Some(5)));
+    assert_eq!(store.get(b"b"), Ok(None));
+}

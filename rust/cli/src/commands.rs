@@ -71,8 +71,10 @@ pub fn apply(words: &[String]) -> Done {
 
 /// 01's way: the text is one batch.
 fn apply_one(store: &mut Store<Vec<u8>>, text: &[u8], sort: bool) -> Result<usize, Error> {
-    let batch = lines::parse(text)?;
-    store.apply_records(&if sort { batch.encode() } else { batch.encode_as_given() })
+    match sort {
+        true => store.apply(&lines::parse(text)?),
+        false => store.run_lines(text),
+    }
 }
 
 /// Any number of lines, in sorted batches of a size. The error counts the records of all batches.
@@ -84,7 +86,7 @@ fn apply_many(store: &mut Store<Vec<u8>>, text: &[u8], size: usize) -> Result<us
     while !rest.is_empty() {
         let bad = Error { refusal: Refusal::BadText, applied };
         let end = rest.iter().position(|&b| b == b'\n').ok_or(bad)?;
-        lines::parse_line(&rest[..end], &mut batch).map_err(|_| bad)?;
+        batch.append(lines::parse(&rest[..=end]).map_err(|_| bad)?);
         rest = &rest[end + 1..];
         if batch.len() == size || rest.is_empty() {
             applied += store.apply(&batch).map_err(|e| Error { applied: applied + e.applied, ..e })?;

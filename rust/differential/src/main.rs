@@ -1,10 +1,11 @@
 //! `differential SEED COUNT`: gives the same random inputs to the linked functions, to the original and to our own reading of 01, and
-//! compares every answer and every lent byte. COUNT histories, as many damaged stores, record buffers and random buffers for each.
+//! compares every answer and every lent byte. COUNT histories; damaged stores, record buffers, random buffers, nodes and texts for each.
 //! A disagreement is printed with the smallest input that still shows it, and ends the run with status 1.
 
 mod audit;
 mod damage;
 mod history;
+mod lines;
 mod nodes;
 mod records;
 mod shrink;
@@ -29,6 +30,11 @@ pub struct Counts {
     pub audits_failed: usize,
     pub node_readings: usize,
     pub node_refusals: usize,
+    pub node_writings: usize,
+    pub writings_refused: usize,
+    pub texts: usize,
+    pub texts_refused: usize,
+    pub lines_applied: usize,
 }
 
 /// What two sides say, where they differ.
@@ -52,7 +58,8 @@ fn main() -> ExitCode {
     let mut random = Random::new(seed);
     let mut counts = Counts::default();
     for case in 0..count {
-        let parts = [history::case, damage::case, records::case, damage::any_bytes, nodes::case];
+        let parts =
+            [history::case, damage::case, records::case, damage::any_bytes, nodes::case, nodes::written, lines::case];
         for part in parts {
             if let Err(told) = part(&mut random, &mut counts) {
                 println!("seed {seed}, case {case}: {told}");

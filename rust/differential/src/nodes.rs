@@ -1,10 +1,10 @@
-//! Node bytes, good and damaged, beside the original's reader and our own reading of 01.
+//! Node bytes, good and damaged, and nodes to be written, beside the original's reader and writer and our own reading of 01.
 
-use cikolaro::raw;
+use cikolaro::raw::{self, LentNode};
 use oracle::model::codec;
-use oracle::nodes::{any_node, bytes_of, damaged, Damage, Lengths};
+use oracle::nodes::{any_node, bytes_of, damaged, Damage, Lengths, EDGES};
 use oracle::random::Random;
-use original::btree::glue::read_node;
+use original::btree::glue::{read_node, write_node, NodeParts};
 
 use crate::{same, Compared, Counts};
 
@@ -51,4 +51,70 @@ fn check(bytes: &[u8], counts: &mut Counts) -> Compared {
         same("the original's children", nine, theirs.children.to_vec())?;
     }
     Ok(())
+}
+
+/// Nodes to be written, whatever their fields hold.
+pub fn written(random: &mut Random, counts: &mut Counts) -> Compared {
+    for _ in 0..20 {
+        let node = lent(random);
+        let told = told(&node);
+        // Room that is enough, or just so, or too little, or any.
+        let needed = told.as_ref().map_or(8, Vec::len);
+        let room = *random.pick(&[needed, needed, needed + 1, needed - 1, needed + 100, 0, 2480, 2480]);
+        let before = random.bytes(room);
+        counts.node_writings += 1;
+        let (number, bytes) = match &told {
+            Ok(bytes) if bytes.len() <= room => (0, &bytes[..]),
+            Ok(_) => (10, &[][..]),
+            Err(number) => (u32::from(*number), &[][..]),
+        };
+        counts.writings_refused += usize::from(number != 0);
+        let after = [bytes, &before[bytes.len()..]].concat();
+        let mut destination = before;
+        same("writing", raw::node_write(&node, &mut destination), (number, bytes.len()))
+            .and_then(|()| same("the destination", destination, after))
+            .map_err(|told| format!("{told}\n  node {node:?}, room {room}"))?;
+        if let Ok(bytes) = &told {
+            let theirs = NodeParts { children: node.children, separators: pairs(&node) };
+            same("the original's bytes", write_node(&theirs).ok().as_ref(), Some(bytes))?;
+        }
+    }
+    Ok(())
+}
+
+/// Numbers and bytes of all kinds; one node of three is good.
+fn lent(random: &mut Random) -> LentNode {
+    let mut node = LentNode { count: 0, children: [0; 9], values: [0; 8], lengths: [0; 8], keys: [0; 2304] };
+    let flaw = random.below(9);
+    let any = random.any() as usize;
+    node.count = if flaw == 0 { *random.pick(&[9, 10, 17, any.max(9), usize::MAX]) } else { random.between(0, 8) };
+    node.children.iter_mut().for_each(|child| *child = if random.percent(80) { random.any() } else { 0 });
+    node.values.iter_mut().for_each(|value| *value = random.any() | 1);
+    node.keys.copy_from_slice(&random.bytes(2304));
+    for length in &mut node.lengths {
+        *length = if random.percent(40) { *random.pick(&EDGES[..7]) } else { random.below(20) };
+    }
+    let at = random.below(8);
+    if flaw <= 3 {
+        node.values[at] = 0;
+    }
+    if flaw == 1 || flaw == 4 {
+        let any = random.any() as usize;
+        node.lengths[random.below(8)] = *random.pick(&[289, 290, 2304, any.max(289), usize::MAX]);
+    }
+    node
+}
+
+/// The separators that the fields name. A key that is over 288 bytes is only told to be so.
+fn pairs(node: &LentNode) -> Vec<(Vec<u8>, u64)> {
+    (0..node.count.min(9))
+        .map(|at| match node.lengths.get(at) {
+            Some(&length) if length <= 288 => (node.keys[288 * at..][..length].to_vec(), node.values[at]),
+            _ => (vec![0; 289], node.values.get(at).copied().unwrap_or(0)),
+        })
+        .collect()
+}
+
+fn told(node: &LentNode) -> Result<Vec<u8>, u8> {
+    codec::write(&node.children, &pairs(node))
 }

@@ -24,7 +24,7 @@ pub fn encoded(records: &[Change]) -> Vec<u8> {
 }
 
 /// "records from the front (7, 3 for under 11 bytes or kind, 4, 5, 3 for a short key, 6)"; 0 where there is no refusal.
-fn refusal(records: &[u8]) -> u32 {
+pub fn refusal(records: &[u8]) -> u32 {
     let (mut rest, mut before, mut seen): (&[u8], &[u8], usize) = (records, &[], 0);
     while !rest.is_empty() {
         if seen == 65_535 {
