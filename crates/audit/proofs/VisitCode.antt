@@ -7,7 +7,7 @@ use Prim.Native.Nat.{ℕ, zero, suc, _+_, _-_, _≤_, _<_}
 use lib.ListN.{length, getD}
 use lib.Dec.{leb, eqb}
 use native.Mathlib.Omega.{arith}
-use borrow.Author.Tests.{not-true, not-false, eq-eqb, ne-eqb}
+use borrow.Author.Tests.{not-true, not-false}
 use Rattle.word.specs.Pick.{pick, pickT, pickF}
 use Rattle.word.specs.Part.{part}
 use Rattle.word.specs.Key.{Key}
@@ -56,11 +56,11 @@ module _ (s : List ℕ) (h least x : ℕ) (w : SeenWords) (bottom : h ≡ 0) whe
   at-bottom = rw bottom
 
 module _ (s : List ℕ) (h least x : ℕ) (ws : List ℕ) (l : Last) (bottom : h ≡ 0) where
-  pub visit-1 : x ≡ 0 → seenOf s (record { right = true; last = l }) ws ≡ visitIn s h least x (record { marks = ws; last = keyOf s l })
-  visit-1 z = seen-right s (record { right = true; last = l }) ws refl ∙ sym (at-bottom s h least x (record { marks = ws; last = keyOf s l }) bottom ∙ rw (eq-eqb x 0 z))
-
-  pub visit-2 : (r : struct.Seen) → (x ≡ 0 → ⊥) → r .right ≡ false → seenOf s r ws ≡ visitIn s h least x (record { marks = ws; last = keyOf s l })
-  visit-2 r z e = seen-wrong s r ws e ∙ sym (at-bottom s h least x (record { marks = ws; last = keyOf s l }) bottom ∙ rw (ne-eqb x 0 z))
+  pub visit-1 : seenOf s (record { right = eqb x 0; last = l }) ws ≡ visitIn s h least x (record { marks = ws; last = keyOf s l })
+  visit-1 =
+      by-bool (eqb x 0)
+      (λ e. seen-right s (record { right = eqb x 0; last = l }) ws e ∙ sym (at-bottom s h least x (record { marks = ws; last = keyOf s l }) bottom ∙ rw e))
+      (λ e. seen-wrong s (record { right = eqb x 0; last = l }) ws e ∙ sym (at-bottom s h least x (record { marks = ws; last = keyOf s l }) bottom ∙ rw e))
 
 -- ---- a node
 
@@ -120,8 +120,8 @@ module _ (s : List ℕ) (bs : Bytes s) (h least x : ℕ) (w : SeenWords) (there 
       answer : r ≡ may
       answer = tried .0 ∙ ap (λ (z : ℕ). enters s z (p .standard) (p .count) least (w .marks)) slot ∙ ap (λ (q : Places). enters s (slotOf s x) (q .standard) (q .count) least (w .marks)) places
 
-      pub visit-3 : (f : struct.Seen) (us : List ℕ) → not r ≡ true → f .right ≡ false → seenOf s f us ≡ visitIn s h least x w
-      visit-3 f us n e = seen-wrong s f us e ∙ sym (node-is ∙ pickF _ _ (sym answer ∙ not-true r n))
+      pub visit-2 : (f : struct.Seen) (us : List ℕ) → not r ≡ true → f .right ≡ false → seenOf s f us ≡ visitIn s h least x w
+      visit-2 f us n e = seen-wrong s f us e ∙ sym (node-is ∙ pickF _ _ (sym answer ∙ not-true r n))
 
       module _ (n : not r ≡ false) where
         yes : may ≡ true

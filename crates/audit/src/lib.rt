@@ -232,7 +232,20 @@ fn failed() -> Seen
     }
 }
 
-// Walks the nodes from a child down, of which so many levels are left; below the last one stands no child.
+// What stands below a node: no child below a leaf, else the next node down. Apart from `visit` and small, so that the compiler puts it into the loop there, and the nine absent children of a leaf cost no call.
+fn descend(store: &[u8], marks: &mut [u64], child: Child, height: u32, before: Last) -> Seen
+    ensures { λ r. ⌜ seenOf (now (store .entry)) r (now (marks .exit)) ≡ visitIn (now (store .entry)) height 4 (child .0) (record { marks = now (marks .entry); last = keyOf (now (store .entry)) before }) ⌝ }
+{
+    if height == 0 {
+        return Seen {
+            right: child.0 == 0,
+            last: before,
+        };
+    }
+    visit(store, marks, child, height, LEAST_SEPARATORS, before)
+}
+
+// Walks the nodes from a child down, of which so many levels are left; below the last one stands no child. Only `descend` meets height 0; the test here makes `visit` total.
 fn visit(
     store: &[u8],
     marks: &mut [u64],
@@ -244,13 +257,10 @@ fn visit(
     ensures { λ r. ⌜ seenOf (now (store .entry)) r (now (marks .exit)) ≡ visitIn (now (store .entry)) height least (child .0) (record { marks = now (marks .entry); last = keyOf (now (store .entry)) before }) ⌝ }
 {
     if height == 0 {
-        if child.0 == 0 {
-            return Seen {
-                right: true,
-                last: before,
-            };
-        }
-        return failed();
+        return Seen {
+            right: child.0 == 0,
+            last: before,
+        };
     }
     let slot = slots::slot_of(store, child);
     let places = slots::read_places(store, child);
@@ -260,7 +270,7 @@ fn visit(
     }
     let from = slots::start_of(slot) + 4;
     let first = places.children[0];
-    let mut seen = visit(store, marks, first, height - 1, LEAST_SEPARATORS, before);
+    let mut seen = descend(store, marks, first, height - 1, before);
     let mut i: usize = 0;
     while i < count {
         if !seen.right {
@@ -274,12 +284,11 @@ fn visit(
         }
         i += 1;
         let next = places.children[i];
-        seen = visit(
+        seen = descend(
             store,
             marks,
             next,
             height - 1,
-            LEAST_SEPARATORS,
             Last {
                 keyed: true,
                 start: start,
