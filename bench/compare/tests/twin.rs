@@ -39,6 +39,7 @@ struct Both {
     twin: Vec<u8>,
     marks: Vec<u64>,
     twin_marks: Vec<u64>,
+    resumes: bool,
 }
 
 impl Both {
@@ -48,12 +49,14 @@ impl Both {
         assert_eq!(raw::format(&mut proved, slots), 0);
         assert_eq!(format(&mut twin, slots), Ok(()));
         let marks = vec![7; mark_words(slots)];
-        Both { proved, twin, twin_marks: marks.clone(), marks }
+        Both { proved, twin, twin_marks: marks.clone(), marks, resumes: false }
     }
 
     fn batch(&mut self, records: &[u8]) -> u32 {
         let proved = raw::batch(&mut self.proved, &mut self.marks, records);
-        let twin = batch::batch(&mut self.twin, &mut self.twin_marks, records);
+        // Both forms of the twin take turns.
+        self.resumes = !self.resumes;
+        let twin = batch::batch(&mut self.twin, &mut self.twin_marks, records, self.resumes);
         assert_eq!(proved, twin);
         self.same();
         proved.0

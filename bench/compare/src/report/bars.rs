@@ -7,11 +7,11 @@ use crate::sides::{NAMES, PROVED};
 const LEFT: f64 = 70.0;
 const TOP: f64 = 84.0;
 const BOTTOM: f64 = 390.0;
-const GROUP: f64 = 98.0;
+const GROUP: f64 = 108.0;
 const BAR: f64 = 15.0;
 
 /// One for each side but the proved library, and one for a reading of all bytes.
-const COLOURS: [&str; NAMES.len()] = ["#0072B2", "#D55E00", "#E69F00", "#009E73", "#CC79A7", "#999999"];
+const COLOURS: [&str; NAMES.len()] = ["#0072B2", "#56B4E9", "#D55E00", "#E69F00", "#009E73", "#CC79A7", "#999999"];
 const READING: &str = "one reading of the bytes (audit only)";
 
 /// Bars that stand together: a colour and a ratio each.

@@ -17,13 +17,14 @@ use crate::work::{Batch, Key};
 
 pub const PROVED: &str = "proved";
 pub const TWIN: &str = "twin";
+pub const RESUMING: &str = "resuming twin";
 pub const ORIGINAL: &str = "original";
 pub const MAP: &str = "BTreeMap";
 pub const LMDB: &str = "LMDB";
 pub const SQLITE: &str = "SQLite";
 
 /// In the order of the table.
-pub const NAMES: [&str; 6] = [PROVED, TWIN, ORIGINAL, MAP, LMDB, SQLITE];
+pub const NAMES: [&str; 7] = [PROVED, TWIN, RESUMING, ORIGINAL, MAP, LMDB, SQLITE];
 
 /// What lookups or a scan came across: all sides have to agree.
 #[derive(Clone, Copy, Debug, Default, PartialEq, Eq)]
@@ -94,6 +95,7 @@ pub fn all(slots: u32) -> Vec<Box<dyn Side>> {
     vec![
         Box::new(slots::InSlots::<proved::Proved>::new(slots)),
         Box::new(slots::InSlots::<twin::Twin>::new(slots)),
+        Box::new(slots::InSlots::<twin::Resuming>::new(slots)),
         #[cfg(feature = "original")]
         Box::new(original::Tree::new(slots)),
         Box::new(map::Map::default()),

@@ -1,20 +1,25 @@
-//! The Rust twin.
+//! The Rust twin, which goes down from the root for each key, as the library does; and the same going on from the last key, which is
+//! for the library to come.
 
 use super::slots::Face;
-use super::{Tally, TWIN};
+use super::{Tally, RESUMING, TWIN};
 use crate::twin::{audit, batch, codec, format, walk};
 
-pub struct Twin;
+pub struct Rust<const RESUMES: bool>;
 
-impl Face for Twin {
-    const NAME: &'static str = TWIN;
+pub type Twin = Rust<false>;
+
+pub type Resuming = Rust<true>;
+
+impl<const RESUMES: bool> Face for Rust<RESUMES> {
+    const NAME: &'static str = if RESUMES { RESUMING } else { TWIN };
 
     fn format(store: &mut [u8], count: u32) {
         assert_eq!(format(store, count), Ok(()));
     }
 
     fn batch(store: &mut [u8], marks: &mut [u64], records: &[u8]) -> usize {
-        let (number, applied) = batch::batch(store, marks, records);
+        let (number, applied) = batch::batch(store, marks, records, RESUMES);
         assert_eq!(number, 0);
         applied
     }

@@ -6,14 +6,14 @@ use super::layout::{mark_words, put_u32, put_u64, Header, NODE};
 use super::records::{check, Record, SET};
 use super::{number, Answer};
 
-/// 01's number, and how many records are applied.
-pub fn batch(store: &mut [u8], marks: &mut [u64], records: &[u8]) -> (u32, usize) {
+/// 01's number, and how many records are applied. `resumes`: a key is searched from where the last one was found.
+pub fn batch(store: &mut [u8], marks: &mut [u64], records: &[u8], resumes: bool) -> (u32, usize) {
     let mut applied = 0;
-    let number = accepted(store, marks, records, &mut applied).err().unwrap_or(0);
+    let number = accepted(store, marks, records, resumes, &mut applied).err().unwrap_or(0);
     (number, applied)
 }
 
-fn accepted(store: &mut [u8], marks: &mut [u64], records: &[u8], applied: &mut usize) -> Answer<()> {
+fn accepted(store: &mut [u8], marks: &mut [u64], records: &[u8], resumes: bool, applied: &mut usize) -> Answer<()> {
     let header = Header::of(store)?;
     if marks.len() < mark_words(header.count) {
         return Err(number::FEW_MARKS);
@@ -21,7 +21,7 @@ fn accepted(store: &mut [u8], marks: &mut [u64], records: &[u8], applied: &mut u
     check(records)?;
     let reached = audit(store, marks)?;
     marks.fill(0);
-    let mut tree = Tree::new(store, header, reached);
+    let mut tree = Tree::new(store, header, reached, resumes);
     let answer = tree.runs(records, applied);
     tree.close();
     answer

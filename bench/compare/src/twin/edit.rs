@@ -131,13 +131,15 @@ pub struct Tree<'a> {
     pub free: usize,
     /// The way to the last key, from the leaf up.
     pub path: [Step; DEEPEST as usize + 2],
+    /// Whether a key is searched from where the last one was found; else from the root, as the library does.
+    resumes: bool,
     /// The level at which it ended; none where a node on it was split, joined or filled up since.
     pub ended: Option<usize>,
     pub carried: Carried,
 }
 
 impl<'a> Tree<'a> {
-    pub fn new(bytes: &'a mut [u8], header: Header, reached: usize) -> Tree<'a> {
+    pub fn new(bytes: &'a mut [u8], header: Header, reached: usize, resumes: bool) -> Tree<'a> {
         Tree {
             bytes,
             root: header.root,
@@ -145,6 +147,7 @@ impl<'a> Tree<'a> {
             first_free: header.first_free,
             free: header.count as usize - reached,
             path: Default::default(),
+            resumes,
             ended: None,
             carried: Carried::EMPTY,
         }
@@ -186,8 +189,8 @@ impl<'a> Tree<'a> {
     /// The lowest node of the old way that has the key below it. Keys never fall in a batch, so the search goes on where it stopped.
     #[inline]
     fn resume(&self, key: &[u8]) -> (usize, Step) {
-        let standing = self.ended.unwrap_or(self.depth)..self.depth;
-        for level in standing {
+        let lowest = self.ended.filter(|_| self.resumes).unwrap_or(self.depth);
+        for level in lowest..self.depth {
             if self.is_below(key, self.path[level + 1]) {
                 return (level, self.path[level]);
             }
