@@ -1,11 +1,11 @@
 -- The ways through the edits of src/edit.rt, in the words of specs/EditMirror.antt: for the proofs of its functions.
 -- Assumes nothing.
 use mathlib.Core.Path.{_≡_, refl, sym, ap, _∙_}
-use mathlib.Core.List.{List, [], _∷_, _++_, map, append-assoc, append-nil}
+use mathlib.Core.List.{List, [], _∷_, _++_, map}
 use mathlib.Core.Bool.{Bool, true, false, not}
 use Prim.Native.Nat.{ℕ, zero, suc, min, _+_, _*_, _-_, _≤_, _<_}
-use lib.ListN.{length, take, drop, getD, set, replicate, length-append, length-take, length-set, length-map, length-replicate, List·getD-eq-default}
-use lib.Seq.{take-all, drop-length, length-take-le, set-out}
+use lib.ListN.{length, take, drop, getD, set, replicate, length-take, length-set, length-map, length-replicate, List·getD-eq-default}
+use lib.Seq.{take-all, length-take-le, set-out}
 use lib.Dec.{leb}
 use native.Mathlib.Omega.{arith}
 use borrow.Author.Tests.{lt-ltb, le-ltb, le-leb, lt-leb, not-true, not-false}
@@ -16,7 +16,6 @@ use Rattle.word.specs.Part.{part, over}
 use Rattle.word.specs.Num.{zeros}
 use Rattle.word.specs.At.{fitsIn, copyAt}
 use Rattle.word.proofs.PartLaws.{length-part, length-over, over-beside, set-over}
-use Rattle.word.proofs.NumLaws.{length-zeros}
 use Rattle.word.proofs.AtLaws.{fitted, copyAt-in}
 use Rattle.node.specs.declared.Child.{Child}
 use Rattle.node.specs.declared.Value.{Value}
@@ -26,7 +25,7 @@ use Rattle.node.specs.declared.Separator.{Separator}
 use Rattle.node.specs.Layout.{padded, childOf, valueOf, blocks, nodeOf}
 use Rattle.node.specs.Edit.{inserted, removed, insertAt, removeAt, separatorOf}
 use Rattle.node.specs.EditMirror.{copied, found, goesOn, isEqual, orderAt, positionFrom, positionOf, sepAt, withSeparator, withValue, withChild, opened, insertedAt, closed, removedAt, keptTo, restFrom, splitAt, joinedWith}
-use Rattle.node.proofs.ArrayLaws.{copied-none, copied-past, copied-short, copied-turn, copied-in, copied-zeros, part-end, take-inserted, take-removed, open-array, close-array, over-zeros, padded-full}
+use Rattle.node.proofs.ArrayLaws.{copied-none, copied-past, copied-short, copied-turn, copied-in, copied-zeros, part-end, open-array, close-array, over-zeros, padded-full}
 
 -- ---- arrays
 
@@ -61,67 +60,8 @@ part-front : (s : List ℕ) (n : ℕ) → part s 0 n ≡ take n s
 unfolding part
 part-front s n = refl
 
-over-all : (z b : List ℕ) → length b ≡ length z → over z 0 b ≡ b
-unfolding over
-over-all z b e = let f : 0 + length b ≡ length z = omega arith in rw (f, drop-length z) (append-nil b)
-
-same-part : (s : List ℕ) (at j m : ℕ) → j ≡ m → take j (drop at s) ≡ part s at m
-unfolding part
-same-part s at j m e = rw e
-
-pad-zeros : (n : ℕ) (b : List ℕ) (w : ℕ) → n - length b ≡ w → padded n 0 b ≡ b ++ zeros w
-unfolding padded zeros
-pad-zeros n b w e = rw e
-
--- all of s over z
-pub copy-all : (z s : List ℕ) (n : ℕ) {o : List ℕ} → length z ≡ n → length s ≡ n → o ≡ copyAt z 0 s 0 n → o ≡ s
-copy-all z s n h g e =
-    e ∙ copyAt-in z 0 s 0 n (omega arith) (omega arith) ∙ rw (part-front s n, take-all n s (omega arith)) (over-all z s (omega arith))
-
--- a piece laid behind another
-laid : (z b d : List ℕ) (a : ℕ) → length b ≡ a → a + length d ≤ length z → over (over z 0 b) a d ≡ over z 0 (b ++ d)
-laid z b d a e h = let f : 0 + length b ≡ a = omega arith in rw f at (over-beside {A = ℕ} z 0 b d (omega arith))
-
-copy-front : (z s : List ℕ) (m : ℕ) {o : List ℕ} → m ≤ length z → m ≤ length s → o ≡ copyAt z 0 s 0 m → o ≡ over z 0 (take m s)
-copy-front z s m h g e = e ∙ copyAt-in z 0 s 0 m (omega arith) (omega arith) ∙ rw (part-front s m)
-
 copy-whole : (d : List ℕ) (at : ℕ) (s : List ℕ) (m : ℕ) {o : List ℕ} → at + m ≤ length d → length s ≡ m → o ≡ copyAt d at s 0 m → o ≡ over d at s
 copy-whole d at s m h g e = e ∙ copyAt-in d at s 0 m h (omega arith) ∙ rw (part-front s m, take-all m s (omega arith))
-
--- the pieces of an opened array: those before, the key, those behind
-pub keys-opened : (z s k : List ℕ) (at w n : ℕ) {o p q : List ℕ} → length z ≡ n → length s ≡ n → length k ≡ w → at + w ≤ n
-    → o ≡ copyAt z 0 s 0 at → p ≡ copyAt o at k 0 w → q ≡ copyAt p (at + w) s at (n - w - at) → q ≡ take n (inserted at k s)
-keys-opened z s k at w n {o} {p} {q} hz hs hk fit e f g =
-    let x : List ℕ = take at s in
-    let y : List ℕ = part s at (n - w - at) in
-    let lx : length x ≡ at = length-take-le at s (omega arith) in
-    let ly : length y ≡ n - w - at = length-part s at (n - w - at) (omega arith) in
-    let lxk : length (x ++ k) ≡ at + w = simp length-append (omega arith) in
-    let eo : o ≡ over z 0 x = copy-front z s at (omega arith) (omega arith) e in
-    let lo : length o ≡ n = ap length eo ∙ length-over z 0 x (omega arith) ∙ hz in
-    let ep : p ≡ over z 0 (x ++ k) = copy-whole o at k w (omega arith) hk f ∙ rw eo (laid z x k at lx (omega arith)) in
-    let lp : length p ≡ n = ap length ep ∙ length-over z 0 (x ++ k) (omega arith) ∙ hz in
-    let eq : q ≡ over z 0 ((x ++ k) ++ y) = g ∙ copyAt-in p (at + w) s at (n - w - at) (omega arith) (omega arith) ∙ rw ep (laid z (x ++ k) y (at + w) lxk (omega arith)) in
-    eq ∙ over-all z ((x ++ k) ++ y) (simp length-append (omega arith))
-    ∙ append-assoc x k y
-    ∙ sym (take-inserted s at k n (omega arith) (omega arith) ∙ rw (same-part s at (n - (at + length k)) (n - w - at) (omega arith)))
-
-pub keys-closed : (s : List ℕ) (at w n : ℕ) {o p : List ℕ} → length s ≡ n → at + w ≤ n
-    → o ≡ copyAt (replicate n 0) 0 s 0 at → p ≡ copyAt o at s (at + w) (n - w - at) → p ≡ take n (removed at w s ++ zeros w)
-keys-closed s at w n {o} {p} hs fit e f =
-    let z : List ℕ = replicate n 0 in
-    let hz : length z ≡ n = length-replicate n 0 in
-    let x : List ℕ = take at s in
-    let y : List ℕ = part s (at + w) (n - w - at) in
-    let lx : length x ≡ at = length-take-le at s (omega arith) in
-    let ly : length y ≡ n - w - at = length-part s (at + w) (n - w - at) (omega arith) in
-    let eo : o ≡ over z 0 x = copy-front z s at (omega arith) (omega arith) e in
-    let lo : length o ≡ n = ap length eo ∙ length-over z 0 x (omega arith) ∙ hz in
-    let ep : p ≡ over z 0 (x ++ y) = f ∙ copyAt-in o at s (at + w) (n - w - at) (omega arith) (omega arith) ∙ rw eo (laid z x y at lx (omega arith)) in
-    let lxy : length (x ++ y) ≡ n - w = simp length-append (omega arith) in
-    let k : n - length (x ++ y) ≡ w = omega arith in
-    ep ∙ over-zeros 0 n (x ++ y) ∙ pad-zeros n (x ++ y) w k ∙ append-assoc x y (zeros w)
-    ∙ sym (take-removed s at w (zeros w) n hs (length-zeros w) fit ∙ rw (part-end s (at + w) (n - w - at) (omega arith)))
 
 -- a part, and zeros behind it
 pub keys-part : (s : List ℕ) (from m n : ℕ) {o : List ℕ} → from + m ≤ length s → m ≤ n → o ≡ copyAt (zeros n) 0 s from m → o ≡ padded n 0 (part s from m)

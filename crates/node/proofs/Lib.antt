@@ -2,6 +2,7 @@ pub mod ByteLaws
 pub mod ScanLaws
 pub mod EncodeLaws
 pub mod LayoutLaws
+pub mod MoveLaws
 pub mod ReadLaws
 pub mod FillLaws
 pub mod Theorems

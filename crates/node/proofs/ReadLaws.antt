@@ -124,6 +124,13 @@ module _ (s : List ℕ) where
 
 -- ---- the keys of a reading
 
+-- the reading that the places and the copied keys make
+abbrev pub madeOf : Places → List ℕ → Reading
+madeOf p keys = record { ending = p .ending; node = record { count = p .count; children = p .children; values = p .values; lens = p .lens; keys = keys } }
+
+abbrev withKeys : Reading → List ℕ → Reading
+withKeys r keys = record { ending = r .ending; node = record { count = r .node .count; children = r .node .children; values = r .node .values; lens = r .node .lens; keys = keys } }
+
 three-zeros : (a b c n : ℕ) → n ≡ a + (b + c) → _≡_ {A = List ℕ} (replicate n 0) (replicate a 0 ++ (replicate b 0 ++ replicate c 0))
 three-zeros a b c n e = rw (e, replicate-append-replicate {A = ℕ} b c 0, replicate-append-replicate {A = ℕ} a (b + c) 0)
 
@@ -193,13 +200,13 @@ module _ (s : List ℕ) where
   unfolding placesOf layout blocks
   keys-read = copied-blocks (layout (scan s)) [] (scan s .rest) 0 (refl, refl) (scan-lies s .spots) refl (omega (arith, scan-lies s .most))
 
-  pub copied-start : (p : Places) (keys : List ℕ) (n : ℕ) → copied s p keys 0 n ≡ copied s p keys 0 (n - 0)
-  copied-start p keys n = let e : n - 0 ≡ n = omega arith in rw e
+  pub copied-start : (p : Places) (keys : List ℕ) (n : ℕ) → (madeOf p keys ≡ madeOf p keys) × (copied s p keys 0 n ≡ copied s p keys 0 (n - 0))
+  copied-start p keys n = let e : n - 0 ≡ n = omega arith in (refl, rw e)
 
-  pub copied-next : {left : List ℕ} (p : Places) (keys : List ℕ) (i n : ℕ) {more : List ℕ} → left ≡ copied s p keys i (n - i) → i < n
-      → more ≡ copyAt keys (288 * i) s (getD (p .starts) i 0) (getD (p .lens) i 0) → left ≡ copied s p more (i + 1) (n - (i + 1))
+  pub copied-next : {left : List ℕ} (p : Places) (r : Reading) (i n : ℕ) {more : List ℕ} → r ≡ madeOf p (r .node .keys) → left ≡ copied s p (r .node .keys) i (n - i) → i < n
+      → more ≡ copyAt (r .node .keys) (288 * i) s (getD (p .starts) i 0) (getD (p .lens) i 0) → (withKeys r more ≡ madeOf p more) × (left ≡ copied s p more (i + 1) (n - (i + 1)))
   unfolding copied
-  copied-next p keys i n l h q = let e : n - i ≡ suc (n - (i + 1)) = omega arith in l ∙ rw (e, q)
+  copied-next p r i n {more} m l h q = let e : n - i ≡ suc (n - (i + 1)) = omega arith in (ap (λ (x : Reading). withKeys x more) m, l ∙ rw (e, q))
 
   copied-all : (p : Places) (keys : List ℕ) (i n : ℕ) → n ≤ i → copied s p keys i (n - i) ≡ keys
   unfolding copied
@@ -217,17 +224,14 @@ module _ (s : List ℕ) where
   lens-read [] h = refl
   lens-read (x ∷ r) h = rw (length-part s (x .0 .start) (x .0 .len) (h .0 .within), lens-read r (h .1))
 
-  -- the reading that the places and the copied keys make
-  read-is : {p : Places} {keys : List ℕ} → p ≡ placesOf s → keys ≡ padded 2304 0 (blocks (map (stepOf s) (scan s .rest)))
-      → _≡_ {A = Reading} (record { ending = p .ending; node = record { count = p .count; children = p .children; values = p .values; lens = p .lens; keys = keys } }) (readingOf s)
+  read-is : {p : Places} {keys : List ℕ} → p ≡ placesOf s → keys ≡ padded 2304 0 (blocks (map (stepOf s) (scan s .rest))) → madeOf p keys ≡ readingOf s
   unfolding placesOf layout readingOf nodeOf
   read-is e k =
       let l = length-map (scan s .rest) (stepOf s) in
       let lens = lens-read (scan s .rest) (scan-lies s .spots) in
       rw (e, k, values-read (scan s .rest), children-read (scan s .rest), lens, l)
 
-  pub read-done : (p : Places) (keys : List ℕ) (i : ℕ) → p ≡ placesOf s → copied s p (replicate 2304 0) 0 (p .count) ≡ copied s p keys i (p .count - i) → p .count ≤ i
-      → _≡_ {A = Reading} (record { ending = p .ending; node = record { count = p .count; children = p .children; values = p .values; lens = p .lens; keys = keys } }) (readingOf s)
+  pub read-done : (p : Places) (keys : List ℕ) (i : ℕ) → p ≡ placesOf s → copied s p (replicate 2304 0) 0 (p .count) ≡ copied s p keys i (p .count - i) → p .count ≤ i → madeOf p keys ≡ readingOf s
   read-done p keys i e l h = read-is e (sym (copied-all p keys i (p .count) h) ∙ sym l ∙ rw e keys-read)
 
 -- ---- the part of a key

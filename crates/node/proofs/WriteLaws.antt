@@ -15,7 +15,7 @@ use Rattle.word.specs.Part.{part, over}
 use Rattle.word.specs.Num.{le}
 use Rattle.word.specs.At.{fitsIn, writeAt, copyAt}
 use Rattle.word.proofs.NumLaws.{length-le}
-use Rattle.word.proofs.PartLaws.{length-part, length-over, over-beside, drop-over, set-over, part-whole}
+use Rattle.word.proofs.PartLaws.{length-part, length-over, over-beside, drop-over, set-over}
 use Rattle.word.proofs.AtLaws.{fits-in, fits-true, fitted, writeAt-in, copyAt-in, length-writeAt, length-copyAt}
 use Rattle.tree.specs.Map.{Sep}
 use Rattle.node.specs.declared.Value.{Value}
@@ -120,52 +120,66 @@ beside d a x y m l r = rw (← l) (over-beside d a x y (omega arith))
 from-front : (d x y : List ℕ) (m : ℕ) → length x ≡ m → m + length y ≤ length d → over (over d 0 x) m y ≡ over d 0 (x ++ y)
 from-front d x y m l r = ap (λ (a : ℕ). over (over d 0 x) a y) (sym (zero-add m)) ∙ beside d 0 x y m l (rw (zero-add m) r)
 
-module _ (d : List ℕ) (at : ℕ) (e : Sep ℕ) where
-  pub put-1 : 288 < length (e .key) → d ≡ putSep d at e
+-- the key is a part of the keys s
+module _ (d : List ℕ) (at : ℕ) (s : List ℕ) (from n v : ℕ) (within : from + n ≤ length s) where
+  abbrev cut : Sep ℕ
+  cut = record { key = part s from n; val = v }
+
+  cut-length : length (part s from n) ≡ n
+  cut-length = length-part s from n within
+
+  pub put-1 : 288 < n → d ≡ putSep d at cut
   unfolding putSep
-  put-1 h = sym (pickT _ _ (lt-ltb longestKey (length (e .key)) h))
+  put-1 h = sym (pickT _ _ (rw cut-length (lt-ltb longestKey n h)))
 
-  module _ {b : Bool} {w : ℕ} (h : length (e .key) ≤ 288) (g : w ≡ sepLength (length (e .key))) (f : b ≡ fitsIn (length d) at w) where
-    pub put-2 : not b ≡ true → d ≡ putSep d at e
+  cut-short : n < 255 → encodeSep cut ≡ le 8 v ++ (n ∷ part s from n)
+  unfolding encodeSep sized
+  cut-short h = rw cut-length (ap (λ (t : List ℕ). le 8 v ++ t) (pickT _ _ (lt-ltb n 255 h)))
+
+  cut-long : 255 ≤ n → encodeSep cut ≡ le 8 v ++ (255 ∷ (le 4 n ++ part s from n))
+  unfolding encodeSep sized
+  cut-long h = rw cut-length (ap (λ (t : List ℕ). le 8 v ++ t) (pickF _ _ (le-ltb n 255 h)))
+
+  module _ {b : Bool} {w : ℕ} (h : n ≤ 288) (g : w ≡ sepLength n) (f : b ≡ fitsIn (length d) at w) where
+    pub put-2 : not b ≡ true → d ≡ putSep d at cut
     unfolding putSep
-    put-2 t = sym (pickF _ _ (le-ltb longestKey (length (e .key)) h) ∙ pickF _ _ (rw (← g) (sym f ∙ not-true _ t)))
+    put-2 t = sym (pickF _ _ (rw cut-length (le-ltb longestKey n h)) ∙ pickF _ _ (rw (cut-length, ← g) (sym f ∙ not-true _ t)))
 
-    pub put-room : not b ≡ false → at + sepLength (length (e .key)) ≤ length d
+    put-room : not b ≡ false → at + sepLength n ≤ length d
     put-room t = rw (← g) (fits-true (length d) at w (sym f ∙ not-false _ t))
 
-    put-in : not b ≡ false → over d at (encodeSep e) ≡ putSep d at e
+    put-in : not b ≡ false → over d at (encodeSep cut) ≡ putSep d at cut
     unfolding putSep
-    put-in t = sym (pickF _ _ (le-ltb longestKey (length (e .key)) h) ∙ pickT _ _ (rw (← g) (sym f ∙ not-false _ t)))
+    put-in t = sym (pickF _ _ (rw cut-length (le-ltb longestKey n h)) ∙ pickT _ _ (rw (cut-length, ← g) (sym f ∙ not-false _ t)))
 
-    pub put-3 : {d1 d2 : List ℕ} → not b ≡ false → d1 ≡ writeAt 8 d at (e .val) → length (e .key) < 255 → d2 ≡ copyAt (set d1 (at + 8) (length (e .key))) (at + 9) (e .key) 0 (length (e .key)) → d2 ≡ putSep d at e
-    unfolding encodeSep sized
-    put-3 t p s q =
-        let n : ℕ = length (e .key) in
+    pub put-3 : {d1 d2 : List ℕ} → not b ≡ false → d1 ≡ writeAt 8 d at v → n < 255 → d2 ≡ copyAt (set d1 (at + 8) n) (at + 9) s from n → d2 ≡ putSep d at cut
+    put-3 t p small q =
         let room = put-room t in
         let wide = sep-least n in
-        let v : List ℕ = le 8 (e .val) in
-        let lv = length-le 8 (e .val) in
-        let l1 : length (over d at v) ≡ length d = length-over d at v (omega arith) in
-        let e1 : writeAt 8 d at (e .val) ≡ over d at v = writeAt-in 8 d at (e .val) (omega arith) in
-        let e2 : set (over d at v) (at + 8) n ≡ over d at (v ++ (n ∷ [])) = set-over (over d at v) (at + 8) n (omega arith) ∙ beside d at v (n ∷ []) 8 lv (omega arith) in
-        let l2 : length (over d at (v ++ (n ∷ []))) ≡ length d = length-over d at (v ++ (n ∷ [])) (simp length-append (omega arith)) in
-        let e3 : copyAt (over d at (v ++ (n ∷ []))) (at + 9) (e .key) 0 n ≡ over d at ((v ++ (n ∷ [])) ++ e .key) =
-        copyAt-in (over d at (v ++ (n ∷ []))) (at + 9) (e .key) 0 n (omega arith) (omega arith) ∙ rw (part-whole (e .key)) (beside d at (v ++ (n ∷ [])) (e .key) 9 (simp length-append (omega arith)) (omega arith)) in
-        q ∙ rw (p, e1, e2, e3) (ap (over d at) (append-assoc v (n ∷ []) (e .key) ∙ ap (λ (t : List ℕ). v ++ t) (sym (pickT (n ∷ e .key) (255 ∷ (le 4 n ++ e .key)) (lt-ltb n 255 s)))) ∙ put-in t)
+        let k : List ℕ = part s from n in
+        let lk : length k ≡ n = cut-length in
+        let x : List ℕ = le 8 v in
+        let lx = length-le 8 v in
+        let l1 : length (over d at x) ≡ length d = length-over d at x (omega arith) in
+        let e1 : writeAt 8 d at v ≡ over d at x = writeAt-in 8 d at v (omega arith) in
+        let e2 : set (over d at x) (at + 8) n ≡ over d at (x ++ (n ∷ [])) = set-over (over d at x) (at + 8) n (omega arith) ∙ beside d at x (n ∷ []) 8 lx (omega arith) in
+        let l2 : length (over d at (x ++ (n ∷ []))) ≡ length d = length-over d at (x ++ (n ∷ [])) (simp length-append (omega arith)) in
+        let e3 : copyAt (over d at (x ++ (n ∷ []))) (at + 9) s from n ≡ over d at ((x ++ (n ∷ [])) ++ k) =
+        copyAt-in (over d at (x ++ (n ∷ []))) (at + 9) s from n (omega arith) (omega arith) ∙ beside d at (x ++ (n ∷ [])) k 9 (simp length-append (omega arith)) (omega arith) in
+        q ∙ rw (p, e1, e2, e3) (ap (over d at) (append-assoc x (n ∷ []) k ∙ sym (cut-short small)) ∙ put-in t)
 
-    pub put-4 : {d1 d2 d3 : List ℕ} → not b ≡ false → d1 ≡ writeAt 8 d at (e .val) → 255 ≤ length (e .key) → d2 ≡ writeAt 4 (set d1 (at + 8) 255) (at + 9) (length (e .key)) → d3 ≡ copyAt d2 (at + 13) (e .key) 0 (length (e .key)) → d3 ≡ putSep d at e
-    unfolding encodeSep sized
-    put-4 t p s r q =
-        let n : ℕ = length (e .key) in
+    pub put-4 : {d1 d2 d3 : List ℕ} → not b ≡ false → d1 ≡ writeAt 8 d at v → 255 ≤ n → d2 ≡ writeAt 4 (set d1 (at + 8) 255) (at + 9) n → d3 ≡ copyAt d2 (at + 13) s from n → d3 ≡ putSep d at cut
+    put-4 t p big r q =
         let room = put-room t in
-        let wide : sepLength n ≡ 13 + n = sep-long n s in
-        let v : List ℕ = le 8 (e .val) in
-        let lv = length-le 8 (e .val) in
-        let l1 : length (over d at v) ≡ length d = length-over d at v (omega arith) in
-        let e1 : writeAt 8 d at (e .val) ≡ over d at v = writeAt-in 8 d at (e .val) (omega arith) in
-        let x : List ℕ = v ++ (255 ∷ []) in
+        let wide : sepLength n ≡ 13 + n = sep-long n big in
+        let k : List ℕ = part s from n in
+        let lk : length k ≡ n = cut-length in
+        let l8 = length-le 8 v in
+        let l1 : length (over d at (le 8 v)) ≡ length d = length-over d at (le 8 v) (omega arith) in
+        let e1 : writeAt 8 d at v ≡ over d at (le 8 v) = writeAt-in 8 d at v (omega arith) in
+        let x : List ℕ = le 8 v ++ (255 ∷ []) in
         let lx : length x ≡ 9 = simp length-append (omega arith) in
-        let e2 : set (over d at v) (at + 8) 255 ≡ over d at x = set-over (over d at v) (at + 8) 255 (omega arith) ∙ beside d at v (255 ∷ []) 8 lv (omega arith) in
+        let e2 : set (over d at (le 8 v)) (at + 8) 255 ≡ over d at x = set-over (over d at (le 8 v)) (at + 8) 255 (omega arith) ∙ beside d at (le 8 v) (255 ∷ []) 8 l8 (omega arith) in
         let l2 : length (over d at x) ≡ length d = length-over d at x (omega arith) in
         let m : List ℕ = le 4 n in
         let lm = length-le 4 n in
@@ -173,10 +187,9 @@ module _ (d : List ℕ) (at : ℕ) (e : Sep ℕ) where
         let y : List ℕ = x ++ m in
         let ly : length y ≡ 13 = simp length-append (omega arith) in
         let l3 : length (over d at y) ≡ length d = length-over d at y (omega arith) in
-        let e4 : copyAt (over d at y) (at + 13) (e .key) 0 n ≡ over d at (y ++ e .key) =
-        copyAt-in (over d at y) (at + 13) (e .key) 0 n (omega arith) (omega arith) ∙ rw (part-whole (e .key)) (beside d at y (e .key) 13 ly (omega arith)) in
-        let same : y ++ e .key ≡ v ++ (255 ∷ (m ++ e .key)) = simp append-assoc in
-        q ∙ rw (r, p, e1, e2, e3, e4, same) (ap (λ (t : List ℕ). over d at (v ++ t)) (sym (pickF (n ∷ e .key) (255 ∷ (m ++ e .key)) (le-ltb n 255 s))) ∙ put-in t)
+        let e4 : copyAt (over d at y) (at + 13) s from n ≡ over d at (y ++ k) = copyAt-in (over d at y) (at + 13) s from n (omega arith) (omega arith) ∙ beside d at y k 13 ly (omega arith) in
+        let same : y ++ k ≡ le 8 v ++ (255 ∷ (m ++ k)) = simp append-assoc in
+        q ∙ rw (r, p, e1, e2, e3, e4, same) (ap (over d at) (sym (cut-long big)) ∙ put-in t)
 
 -- both ways keep the length
 module _ (d k : List ℕ) (at i x j f n v : ℕ) {d1 : List ℕ} (p : d1 ≡ writeAt 8 d at v) where
@@ -393,17 +406,12 @@ module _ (n : Node) (keys : length (n .keys) ≡ 2304) {k : ℕ} (fine : Measure
       pub next-within : {w : ℕ} → w ≡ sepLength (getD (n .lens) i 0) → at + w + 8 ≤ k
       next-within q = omega (arith, front-more q, front-grows n (i + 1) (n .count) (omega arith), front-all)
 
-      -- the part of the keys that the code lends
-      lent-key : putSep d at (record { key = take (288 * i + getD (n .lens) i 0 - 288 * i) (drop (288 * i) (n .keys)); val = getD (n .values) i (valueOf 0) .0 }) ≡ putSep d at (stepAt n i .0)
-      unfolding part
-      lent-key = let e : 288 * i + getD (n .lens) i 0 - 288 * i ≡ getD (n .lens) i 0 = omega arith in rw e
-
       put-is : length (stepAt n i .0 .key) ≤ longestKey → at + sepLength (length (stepAt n i .0 .key)) ≤ length d → putSep d at (stepAt n i .0) ≡ over d at (encodeSep (stepAt n i .0))
       unfolding putSep
       put-is s r = pickF _ _ (le-ltb longestKey (length (stepAt n i .0 .key)) s) ∙ pickT _ _ (fits-in (length d) at (sepLength (length (stepAt n i .0 .key))) r)
 
       pub write-turn : {d1 d2 : List ℕ} {w : ℕ}
-          → d1 ≡ putSep d at (record { key = take (288 * i + getD (n .lens) i 0 - 288 * i) (drop (288 * i) (n .keys)); val = getD (n .values) i (valueOf 0) .0 })
+          → d1 ≡ putSep d at (stepAt n i .0)
           → w ≡ sepLength (getD (n .lens) i 0) → d2 ≡ writeAt 8 d1 (at + w) (getD (n .children) (i + 1) (childOf 0) .0) → WriteLeft n d₀ d2 (at + w + 8) (i + 1)
       write-turn {d1} {d2} {w} p q r =
           let e : Sep ℕ = stepAt n i .0 in
@@ -418,7 +426,7 @@ module _ (n : Node) (keys : length (n .keys) ≡ 2304) {k : ℕ} (fine : Measure
           let s = fine .short i h in
           let ws : sepLength (length (e .key)) ≡ w = ap sepLength lk ∙ sym q in
           let p1 : d1 ≡ over d₀ 0 (x ++ encodeSep e) =
-          p ∙ lent-key ∙ put-is (omega arith) (omega arith) ∙ rw (left .bytes) (from-front d₀ x (encodeSep e) at (sym la) (omega arith)) in
+          p ∙ put-is (omega arith) (omega arith) ∙ rw (left .bytes) (from-front d₀ x (encodeSep e) at (sym la) (omega arith)) in
           let l1 : length (x ++ encodeSep e) ≡ at + w = simp length-append (omega arith) in
           let ld1 : length d1 ≡ length d₀ = ap length p1 ∙ length-over d₀ 0 (x ++ encodeSep e) (omega arith) in
           record {

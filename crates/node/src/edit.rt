@@ -8,8 +8,8 @@ use crate::Value;
 use word::Order;
 ghost use mathlib.Core.Path.{_≡_};
 ghost use mathlib.Core.List.{[], _∷_, _++_};
-ghost use Prim.Native.Nat.{min, _*_, _-_};
-ghost use lib.ListN.{getD, take};
+ghost use Prim.Native.Nat.{min, _+_, _*_, _-_};
+ghost use lib.ListN.{getD, length, take};
 ghost use Rattle.word.specs.Num.{zeros};
 ghost use Rattle.word.specs.At.{copyAt};
 ghost use Rattle.node.specs.Layout.{childOf, valueOf, nodeOf};
@@ -185,19 +185,27 @@ fn open_lens(lens: [usize; 8], i: usize, len: usize) -> [usize; 8]
     out
 }
 
-fn open_keys(keys: &[u8; 2304], i: usize, key: &[u8; 288]) -> [u8; 2304]
-    ensures { λ r. ⌜ r ≡ take 2304 (inserted (288 * i) (now (key .entry)) (now (keys .entry))) ⌝ }
+// The bytes from `at` on move one block up, from the last one on; the last block is lost.
+fn move_up(keys: &mut [u8], at: usize)
+    ensures { λ _. ⌜ now (keys .exit) ≡ copyAt (now (keys .entry)) (at + 288) (now (keys .entry)) at (length (now (keys .entry)) - 288 - at) ⌝ }
 {
-    let mut out = [0u8; 2304];
-    if 7 < i {
-        word::copy(&mut out, 0, keys, 0, 2304);
-        return out;
+    if keys.len() < 288 {
+        return;
     }
-    let at = 288 * i;
-    word::copy(&mut out, 0, keys, 0, at);
-    word::copy(&mut out, at, key, 0, 288);
-    word::copy(&mut out, at + 288, keys, at, 2016 - at);
-    out
+    let mut k = keys.len() - 288;
+    while at < k {
+        k -= 1;
+        keys[k + 288] = keys[k];
+    }
+}
+
+// Past the eighth block nothing moves, and there is no room for one.
+fn open_keys(keys: &mut [u8; 2304], i: usize, key: &[u8; 288])
+    ensures { λ _. ⌜ now (keys .exit) ≡ take 2304 (inserted (288 * i) (now (key .entry)) (now (keys .entry))) ⌝ }
+{
+    let at = 288 * least(i, 8);
+    move_up(keys, at);
+    word::copy(keys, at, key, 0, 288);
 }
 
 // ---- one element gone: a zero comes in at the end
@@ -235,18 +243,30 @@ fn close_lens(lens: [usize; 8], i: usize) -> [usize; 8]
     out
 }
 
-fn close_keys(keys: &[u8; 2304], i: usize) -> [u8; 2304]
-    ensures { λ r. ⌜ r ≡ take 2304 (removed (288 * i) 288 (now (keys .entry)) ++ zeros 288) ⌝ }
+// The bytes behind the block at `at` move one block down, from the first one on; the last block stays as it was.
+fn move_down(keys: &mut [u8], at: usize)
+    ensures { λ _. ⌜ now (keys .exit) ≡ copyAt (now (keys .entry)) at (now (keys .entry)) (at + 288) (length (now (keys .entry)) - 288 - at) ⌝ }
 {
-    let mut out = [0u8; 2304];
-    if 7 < i {
-        word::copy(&mut out, 0, keys, 0, 2304);
-        return out;
+    if keys.len() < 288 {
+        return;
     }
-    let at = 288 * i;
-    word::copy(&mut out, 0, keys, 0, at);
-    word::copy(&mut out, at, keys, at + 288, 2016 - at);
-    out
+    let n = keys.len() - 288;
+    let mut k = at;
+    while k < n {
+        keys[k] = keys[k + 288];
+        k += 1;
+    }
+}
+
+// Past the eighth block nothing moves, and none is cleared.
+fn close_keys(keys: &mut [u8; 2304], i: usize)
+    ensures { λ _. ⌜ now (keys .exit) ≡ take 2304 (removed (288 * i) 288 (now (keys .entry)) ++ zeros 288) ⌝ }
+{
+    let at = 288 * least(i, 8);
+    move_down(keys, at);
+    if at < 2304 {
+        word::clear(keys, 2016, 288);
+    }
 }
 
 // ---- keys from one block on, as many blocks
@@ -397,12 +417,11 @@ impl Node {
         let children = open_children(self.children, j, child);
         let values = open_values(self.values, i, sep.value);
         let lens = open_lens(self.lens, i, sep.len);
-        let keys = open_keys(&self.keys, i, &sep.key);
+        open_keys(&mut self.keys, i, &sep.key);
         self.count = count + 1;
         self.children = children;
         self.values = values;
         self.lens = lens;
-        self.keys = keys;
         self
     }
 
@@ -439,12 +458,11 @@ impl Node {
         let children = close_children(self.children, j);
         let values = close_values(self.values, i);
         let lens = close_lens(self.lens, i);
-        let keys = close_keys(&self.keys, i);
+        close_keys(&mut self.keys, i);
         self.count = count - 1;
         self.children = children;
         self.values = values;
         self.lens = lens;
-        self.keys = keys;
         self
     }
 

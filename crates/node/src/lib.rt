@@ -1,7 +1,10 @@
 // A node of the tree: its kinds, and its bytes read and written.
 ghost use mathlib.Core.Path.{_≡_};
 ghost use mathlib.Core.Bool.{_&&_};
+ghost use Prim.Native.Nat.{_+_, _≤_};
 ghost use lib.Dec.{leb};
+ghost use lib.ListN.{length};
+ghost use Rattle.word.specs.At.{copyAt};
 ghost use Rattle.word.specs.Part.{part};
 ghost use Rattle.node.specs.Codec.{headAt, keyAt, endingNumber, isAccepted, isNoByteLeft, sepLength};
 ghost use Rattle.node.specs.Layout.{placesOf, readingOf, keyPlace, anyFirst, isLong, isNone, writtenOf, leftBy, writtenNumber, writtenLength};
@@ -294,32 +297,39 @@ impl Places {
     }
 }
 
+// A part of the node bytes to a place of the keys, where both have the bytes; else nothing.
+fn put_key(keys: &mut [u8; 2304], at: usize, s: &[u8], start: usize, len: usize)
+    ensures { λ _. ⌜ now (keys .exit) ≡ copyAt (now (keys .entry)) at (now (s .entry)) start len ⌝ }
+{
+    word::copy(keys, at, s, start, len);
+}
+
 pub fn read(s: &[u8]) -> Reading
     ensures { λ r. ⌜ r ≡ readingOf (now (s .entry)) ⌝ }
 {
     let places = Places::read(s);
     let count = places.count;
-    let mut keys = [0u8; 2304];
-    let mut i: usize = 0;
-    while i < count {
-        let start = places.starts[i];
-        let len = places.lens[i];
-        word::copy(&mut keys, 288 * i, s, start, len);
-        i += 1;
-    }
     let children = places.children;
     let values = places.values;
     let lens = places.lens;
-    Reading {
+    let mut reading = Reading {
         ending: places.ending,
         node: Node {
             count: count,
             children: children,
             values: values,
             lens: lens,
-            keys: keys,
+            keys: [0u8; 2304],
         },
+    };
+    let mut i: usize = 0;
+    while i < count {
+        let start = places.starts[i];
+        let len = places.lens[i];
+        put_key(&mut reading.node.keys, 288 * i, s, start, len);
+        i += 1;
     }
+    reading
 }
 
 // The key of a separator, as a part of the node bytes; empty where there is none.
@@ -399,11 +409,18 @@ fn measure(count: usize, lens: [usize; 8], values: [Value; 8]) -> Written
     Written::Done(len)
 }
 
-// A separator at a place, where its key is not too long and the destination has the bytes; else nothing.
-fn write_separator(dst: &mut [u8], at: usize, key: &[u8], value: Value)
-    ensures { λ _. ⌜ now (dst .exit) ≡ putSep (now (dst .entry)) at (record { key = now (key .entry); val = value .0 }) ⌝ }
+// A separator at a place, its key being a part of the keys, where it is not too long and the destination has the bytes; else nothing.
+fn write_separator(
+    dst: &mut [u8],
+    at: usize,
+    keys: &[u8; 2304],
+    from: usize,
+    len: usize,
+    value: Value,
+)
+    requires { ⌜ from + len ≤ length (now keys) ⌝ }
+    ensures { λ _. ⌜ now (dst .exit) ≡ putSep (now (dst .entry)) at (record { key = part (now (keys .entry)) from len; val = value .0 }) ⌝ }
 {
-    let len = key.len();
     if 288 < len {
         return;
     }
@@ -413,11 +430,11 @@ fn write_separator(dst: &mut [u8], at: usize, key: &[u8], value: Value)
     word::write_u64(dst, at, value.0);
     if len < 255 {
         dst[at + 8] = len as u8;
-        word::copy(dst, at + 9, key, 0, len);
+        word::copy(dst, at + 9, keys, from, len);
     } else {
         dst[at + 8] = 255;
         word::write_u32(dst, at + 9, len as u32);
-        word::copy(dst, at + 13, key, 0, len);
+        word::copy(dst, at + 13, keys, from, len);
     }
 }
 
@@ -435,16 +452,13 @@ pub fn write(node: Node, dst: &mut [u8]) -> Written
     if dst.len() < len {
         return Written::ShortDestination;
     }
-    let keys = node.keys;
     let first = node.children[0];
     word::write_u64(dst, 0, first.0);
     let mut at: usize = 8;
     let mut i: usize = 0;
     while i < count {
-        let from = 288 * i;
-        let to = from + lens[i];
         let value = values[i];
-        write_separator(dst, at, &keys[from..to], value);
+        write_separator(dst, at, &node.keys, 288 * i, lens[i], value);
         at += sep_length(lens[i] as u16);
         i += 1;
         let child = node.children[i];

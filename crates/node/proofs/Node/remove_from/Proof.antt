@@ -14,5 +14,5 @@ remove-from-spec =
     (λ c κs. search needs)  -- close-values-requires
     (λ c κs. search needs)  -- close-lens-requires
     (λ c κs. search needs)  -- close-keys-requires
-    (λ c. remove-2 _ _ _ (c .before .before .before .before .before .before .before .before .before .if1 .left) (c .before .before .before .before .before .before .before .close-children .ensures) (c .before .before .before .before .before .close-values .ensures) (c .before .before .before .close-lens .ensures) (c .close-keys .ensures))  -- returns-2
+    (λ c. remove-2 _ _ _ (c .before .before .before .before .before .before .before .before .if1 .left) (c .before .before .before .before .before .before .close-children .ensures) (c .before .before .before .before .close-values .ensures) (c .before .before .close-lens .ensures) (c .close-keys .ensures))  -- returns-2
     )

@@ -15,5 +15,5 @@ shift-from-spec =
     (λ c κs. search needs)  -- open-lens-requires
     (λ c κs. search needs)  -- open-keys-requires
     (λ c. search needs)  -- add-self
-    (λ c. shift-2 _ _ _ _ _ (c .before .before .before .before .before .before .before .before .before .before .before .before .if1 .left) (c .before .before .before .before .before .before .before .before .before .before .open-children .ensures) (c .before .before .before .before .before .before .before .open-values .ensures) (c .before .before .before .before .before .open-lens .ensures) (c .open-keys .ensures))  -- returns-2
+    (λ c. shift-2 _ _ _ _ _ (c .before .before .before .before .before .before .before .before .before .before .before .if1 .left) (c .before .before .before .before .before .before .before .before .before .open-children .ensures) (c .before .before .before .before .before .before .open-values .ensures) (c .before .before .before .before .open-lens .ensures) (c .open-keys .ensures))  -- returns-2
     )

@@ -1,11 +1,5 @@
 -- `node::edit::close_keys` meets its contract. Assumes nothing.
-use Prim.Native.Nat.{ℕ}
-use mathlib.Core.Path.{sym, ap, _∙_}
-use lib.ListN.{length, length-replicate}
-use Rattle.word.proofs.AtLaws.{length-copyAt}
-use Rattle.node.proofs.ArrayLaws.{remove-past}
-use Rattle.node.proofs.EditCode.{copy-all, keys-closed}
-use native.Mathlib.Omega.{arith}
+use Rattle.node.proofs.MoveLaws.{closed-down, closed-none}
 use borrow.Author.Needs.{needs}
 use Rattle.node.proofs.edit.close_keys.Statement.{statement}
 use Rattle.node.proofs.edit.close_keys.Tie as tie
@@ -14,15 +8,10 @@ pub close-keys-spec : {M : Type 1} → statement M
 close-keys-spec =
     tie.close
     (tie.spec
-    (λ c. search needs)  -- slice-aggregate-copy
-    (λ c κs. search needs)  -- copy-requires
-    (λ c. copy-all _ _ 2304 (length-replicate {A = ℕ} 2304 0) (search needs) (c .before .copy .ensures) ∙ remove-past _ _ 288 _ 2304 (search needs) (omega arith))  -- returns
+    (λ c κs. search needs)  -- least-requires
     (λ c. search needs)  -- mul-at
-    (λ c. search needs)  -- slice-aggregate-copy-2
-    (λ c κs. search needs)  -- copy-requires-2
-    (λ c. sym (ap length (c .before .before .copy2 .ensures) ∙ length-copyAt _ _ _ _ _ ∙ length-replicate {A = ℕ} 2304 0))  -- slice-aggregate-copy-3
-    (λ c. search needs)  -- add-copy
-    (λ c. search needs)  -- sub-copy
-    (λ c κs. search needs)  -- copy-requires-3
-    (λ c. keys-closed _ _ 288 2304 (search needs) (omega arith) (c .before .before .before .before .before .copy2 .ensures) (c .before .copy3 .ensures))  -- returns-2
+    (λ c κs. search needs)  -- move-down-requires
+    (λ c κs. search needs)  -- clear-requires
+    (λ c. closed-down _ _ (search needs) (c .before .before .before .before .before .least .ensures) (c .before .before .before .move-down .ensures) (c .before .before .if1 .taken) (c .clear .ensures))  -- returns
+    (λ c. closed-none _ _ (search needs) (c .before .before .before .least .ensures) (c .before .move-down .ensures) (c .if1 .left))  -- returns-2
     )
