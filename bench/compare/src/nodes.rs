@@ -2,7 +2,7 @@
 
 use crate::clock::timed;
 use crate::rows::Row;
-use crate::sides::proved::Proved;
+use crate::sides::proved::{self, Proved};
 use crate::sides::slots::Face;
 use crate::sides::twin::Twin;
 use crate::sides::{PROVED, TWIN};
@@ -48,10 +48,11 @@ pub fn reading(store: &[u8], rounds: usize) -> Row {
 pub fn writing(store: &[u8], rounds: usize) -> Row {
     let bytes = nodes(store);
     let nodes: Vec<Node> = bytes.iter().map(|node| Node::of(&codec::read(node).expect("a good node"))).collect();
+    let lent: Vec<_> = nodes.iter().map(proved::lent).collect();
     let mut row = Row::new("node writing");
     for turn in turns(rounds) {
         match turn {
-            0 => proved_writing(&nodes, &bytes, &mut row),
+            0 => write_by(proved::write_node, PROVED, &lent, &bytes, &mut row),
             1 => write_by(|node, dst| node.write(dst).expect("no refusal"), TWIN, &nodes, &bytes, &mut row),
             _ => original::write(&bytes, &mut row),
         }
@@ -59,17 +60,8 @@ pub fn writing(store: &[u8], rounds: usize) -> Row {
     row
 }
 
-#[cfg(node_write)]
-fn proved_writing(nodes: &[Node], bytes: &[&[u8]], row: &mut Row) {
-    write_by(crate::sides::proved::writer::write_node, PROVED, nodes, bytes, row);
-}
-
-/// The archive has no node writer.
-#[cfg(not(node_write))]
-fn proved_writing(_nodes: &[Node], _bytes: &[&[u8]], _row: &mut Row) {}
-
 /// Every node, written, has to give the bytes that it was read from.
-fn write_by(write: impl Fn(&Node, &mut [u8]) -> usize, side: &str, nodes: &[Node], bytes: &[&[u8]], row: &mut Row) {
+fn write_by<N>(write: impl Fn(&N, &mut [u8]) -> usize, side: &str, nodes: &[N], bytes: &[&[u8]], row: &mut Row) {
     let mut dst = [0; SLOT];
     for (node, bytes) in nodes.iter().zip(bytes) {
         let size = write(node, &mut dst);

@@ -112,7 +112,6 @@ pub fn missing() -> Vec<&'static str> {
         (cfg!(feature = "original"), "the original: its files are not there (oracle/README.md)"),
         (cfg!(lmdb), "LMDB: liblmdb-dev is not installed"),
         (cfg!(sqlite), "SQLite: libsqlite3-dev is not installed"),
-        (cfg!(node_write), "node writing of the proved library: the archive has no `cikolaro_node_write`"),
     ];
     all.into_iter().filter(|(is_there, _)| !is_there).map(|(_, told)| told).collect()
 }

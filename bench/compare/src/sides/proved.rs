@@ -2,6 +2,7 @@
 
 use super::slots::Face;
 use super::{Tally, PROVED};
+use crate::twin::codec::Node;
 use cikolaro::raw;
 
 pub struct Proved;
@@ -49,42 +50,20 @@ impl Face for Proved {
     }
 }
 
-/// The place of the proved node writer. It is compiled where the archive has `cikolaro_node_write` (build.rs looks).
-#[cfg(node_write)]
-pub mod writer {
-    use crate::twin::codec::Node;
-
-    extern "C" {
-        fn cikolaro_node_write(
-            count: usize,
-            children: *const u64,
-            values: *const u64,
-            lens: *const usize,
-            keys: *const u8,
-            dst: *mut u8,
-            dst_len: usize,
-            written: *mut usize,
-        ) -> u32;
+/// The node as the library is lent it: made before the time is taken.
+pub fn lent(node: &Node) -> raw::LentNode {
+    raw::LentNode {
+        count: node.count,
+        children: node.children,
+        values: node.values,
+        lengths: node.lens,
+        keys: node.keys,
     }
+}
 
-    /// Standard form to the front of the destination; how long it is.
-    pub fn write_node(node: &Node, dst: &mut [u8]) -> usize {
-        let mut written = 0;
-        // SAFETY: the arrays have 9, 8, 8 and 2,304 elements and are borrowed for reading, the destination and the count for writing,
-        // for the call.
-        let number = unsafe {
-            cikolaro_node_write(
-                node.count,
-                node.children.as_ptr(),
-                node.values.as_ptr(),
-                node.lens.as_ptr(),
-                node.keys.as_ptr(),
-                dst.as_mut_ptr(),
-                dst.len(),
-                &mut written,
-            )
-        };
-        assert_eq!(number, 0);
-        written
-    }
+/// Standard form to the front of the destination; how long it is.
+pub fn write_node(node: &raw::LentNode, dst: &mut [u8]) -> usize {
+    let (number, written) = raw::node_write(node, dst);
+    assert_eq!(number, 0);
+    written
 }
