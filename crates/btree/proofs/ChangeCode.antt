@@ -20,7 +20,7 @@ use Rattle.node.specs.Edit.{separatorOf}
 use Rattle.slots.specs.Code.{firstIn, restIn, nodeIn, readNodeAt}
 use Rattle.node.specs.declared.search.Turn.the-variants as turn
 use Rattle.node.specs.declared.search.Sight.{Sight}
-use Rattle.slots.specs.Search.{sightAt}
+use Rattle.slots.specs.Search.{SawAt}
 use Rattle.btree.specs.declared.Came as code
 use Rattle.btree.specs.declared.Came.the-variants.{Bad, Plain, Split, Low}
 use Rattle.btree.specs.declared.Outcome.{Outcome}
@@ -217,7 +217,7 @@ down (suc d) h = omega arith
 
 -- ---- the largest entry
 
-module _ (d : ℕ) (s : List ℕ) (x : ℕ) (key : Key) {p : Sight} (searched : p ≡ sightAt turn.Last d s x key) where
+module _ (d : ℕ) (s : List ℕ) (x : ℕ) (key : Key) {p : Sight} (searched : SawAt turn.Last d s x key p) where
   pub last-1 : {r : Outcome} → not (p .good) ≡ true → r ≡ outcomeOf Bad → Lasts (removeLastM (suc d) s x) r s
   last-1 h q = rw (sight-refused turn.Last s d x key searched h) (q, refl)
 
@@ -269,7 +269,7 @@ module _ (d : ℕ) (s : List ℕ) (x : ℕ) (key : Key) {p : Sight} (searched : 
 
 -- ---- where a key belongs
 
-module _ (d : ℕ) (s : List ℕ) (x : ℕ) (k : Key) {p : Sight} (searched : p ≡ sightAt turn.NotBelow d s x k) where
+module _ (d : ℕ) (s : List ℕ) (x : ℕ) (k : Key) {p : Sight} (searched : SawAt turn.NotBelow d s x k p) where
   pub insert-1 : (v : ℕ) (r : Outcome) → not (p .good) ≡ true → r ≡ outcomeOf Bad → Inserts d s x k v r s
   unfolding Inserts
   insert-1 v r h q pos short = rw (sight-refused turn.NotBelow s d x k searched h) (q, refl, tt)

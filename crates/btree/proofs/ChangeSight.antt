@@ -14,11 +14,11 @@ use Rattle.slots.specs.Code.{bytesIn, nodeIn, placesAt}
 use Rattle.node.specs.declared.search.Turn.the-variants.{Last}
 use Rattle.node.specs.declared.search.Sight.{Sight}
 use Rattle.node.specs.Search.{Sees}
-use Rattle.slots.specs.Search.{sightAt}
+use Rattle.slots.specs.Search.{SawAt}
 use Rattle.btree.proofs.ReadPlaces.{last-index, last-child}
 use Rattle.btree.proofs.ReadSight.{sight-tested, sight-sees}
 
-module _ (s : List ℕ) (d x : ℕ) (k : Key) {v : Sight} (saw : v ≡ sightAt Last d s x k) (good : not (v .good) ≡ false) where
+module _ (s : List ℕ) (d x : ℕ) (k : Key) {v : Sight} (saw : SawAt Last d s x k v) (good : not (v .good) ≡ false) where
   sees : Sees Last (placesAt d s x) (bytesIn s x) k v
   sees = sight-sees Last s d x k saw good
 

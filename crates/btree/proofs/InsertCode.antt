@@ -40,7 +40,7 @@ use Rattle.btree.specs.declared.Needed.{Needed}
 use Rattle.btree.specs.declared.Needed.the-variants as needed
 use Rattle.node.specs.declared.search.Turn.the-variants.{NotBelow}
 use Rattle.node.specs.declared.search.Sight.{Sight}
-use Rattle.slots.specs.Search.{sightAt}
+use Rattle.slots.specs.Search.{SawAt}
 use Rattle.btree.specs.Mirror as M
 use Rattle.btree.specs.Mirror.{inTwo, splitM, placeM, insertedAt, insertNodeM, revalued, setValueM, growM}
 use Rattle.btree.specs.RunMirror.{needM, wholeM, slotsNeededM, startM}
@@ -352,7 +352,7 @@ module _ (s : List ℕ) {root : ℕ} (there : root ≡ rootOf s) where
 pub no-child : (l : List Child) (i : ℕ) → length l ≡ 9 → 8 < i → childOf 0 ≡ getD l i (childOf 0)
 no-child l i e h = let g : length l ≤ i = omega arith in sym (List·getD-eq-default l (childOf 0) g)
 
-module _ (s : List ℕ) (k : Key) (d x run : ℕ) {v : Sight} (saw : v ≡ sightAt NotBelow d s x k) where
+module _ (s : List ℕ) (k : Key) (d x run : ℕ) {v : Sight} (saw : SawAt NotBelow d s x k v) where
   need-bad : not (v .good) ≡ true → needM k (suc d) s x run ≡ none
   need-bad h = rw (sight-refused NotBelow s d x k saw h)
 
@@ -395,7 +395,7 @@ pub needed-deep : (s : List ℕ) (k : Key) {top : ℕ} {r : Needed} → top ≡ 
 needed-deep s k e h g = absurd (omega arith)
 
 module _ (s : List ℕ) (k : Key) (top left x run : ℕ) (so-far : NeedLeft s k top left x run) where
-  module _ (more : 0 < left) {v : Sight} (saw : v ≡ sightAt NotBelow (left - 1) s x k) where
+  module _ (more : 0 < left) {v : Sight} (saw : SawAt NotBelow (left - 1) s x k v) where
     down : left ≡ suc (left - 1)
     down = omega arith
 

@@ -15,6 +15,7 @@ pub mod Corollaries
 pub mod ReadPlaces
 pub mod ReadSight
 pub mod InsertCode
+pub mod SpliceCode
 pub mod RemoveCode
 pub mod RebalanceCode
 pub mod OneNodeCode

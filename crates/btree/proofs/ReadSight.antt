@@ -1,6 +1,6 @@
 -- What the code learns of a node on the way down, where it walks along the node's bytes once: of what is seen the same as
 -- ReadPlaces says of the places. Assumes nothing.
-use mathlib.Core.Path.{_≡_, refl, sym, subst, _∙_}
+use mathlib.Core.Path.{_≡_, refl, _∙_}
 use mathlib.Core.List.{List}
 use mathlib.Core.Bool.{Bool, true, false, not}
 use mathlib.Core.Option.{none, some}
@@ -16,14 +16,14 @@ use Rattle.node.specs.declared.search.Turn.{Turn}
 use Rattle.node.specs.declared.search.Turn.the-variants.{NotBelow, Last}
 use Rattle.node.specs.declared.search.Sight.{Sight}
 use Rattle.node.specs.Search.{turnAt, Sees}
-use Rattle.slots.specs.Search.{SeesAt, sightAt}
+use Rattle.slots.specs.Search.{SawAt, SeesAt}
 use Rattle.slots.proofs.SearchLaws.{sees-at}
 use Rattle.btree.specs.Mirror.{isNext}
 use Rattle.btree.proofs.ReadPlaces.{not-read, was-read, count-read, at-is, index-is, child-is, last-index, last-child}
 
-module _ (t : Turn) (s : List ℕ) (d x : ℕ) (k : Key) {v : Sight} (saw : v ≡ sightAt t d s x k) where
+module _ (t : Turn) (s : List ℕ) (d x : ℕ) (k : Key) {v : Sight} (saw : SawAt t d s x k v) where
   seen : SeesAt t d s x k v
-  seen = subst (SeesAt t d s x k) (sym saw) (sees-at t d s x k)
+  seen = sees-at t d s x k saw
 
   -- what the laws of ReadPlaces ask for, of the places themselves
   pub sight-tested : v .good ≡ isAccepted (placesAt d s x .ending)
@@ -43,7 +43,7 @@ module _ (t : Turn) (s : List ℕ) (d x : ℕ) (k : Key) {v : Sight} (saw : v �
     sight-count = sight-sees .count-is ∙ count-read s d x refl sight-tested good
 
 -- where a key belongs
-module _ (s : List ℕ) (d x : ℕ) (k : Key) {v : Sight} (saw : v ≡ sightAt NotBelow d s x k) (good : not (v .good) ≡ false) where
+module _ (s : List ℕ) (d x : ℕ) (k : Key) {v : Sight} (saw : SawAt NotBelow d s x k v) (good : not (v .good) ≡ false) where
   sees : Sees NotBelow (placesAt d s x) (bytesIn s x) k v
   sees = sight-sees NotBelow s d x k saw good
 

@@ -23,7 +23,7 @@ ghost use Rattle.slots.specs.Code.{readNodeAt};
 ghost use Rattle.btree.specs.Mirror as M;
 ghost use Rattle.btree.specs.Mirror.{insertedAt, placeM, insertNodeM, setValueM, growM};
 ghost use Rattle.btree.specs.RunMirror.{startM, slotsNeededM};
-ghost use Rattle.btree.specs.Outcome.{ofCame, ofNeed, FitCame, Makes};
+ghost use Rattle.btree.specs.Outcome.{ofCame, ofNeed, FitCame, Makes, PutOr};
 
 // ---- a separator taken in by the node above
 
@@ -55,6 +55,49 @@ fn split_node(
     }
 }
 
+// Where the bytes of the node in a slot are in standard form and take one more separator, it goes in among them, and no node is
+// read and written: whether it did.
+fn insert_short(
+    store: &mut [u8],
+    child: Child,
+    depth: u32,
+    i: Index,
+    sep: Separator,
+    right: Child,
+) -> bool
+    ensures { λ r. ⌜ ((e : Sep ℕ) → sep ≡ separatorOf e → Fit e → PutOr r (insertNodeM depth (now (store .entry)) (child .0) (i .0) e (right .0)) (now (store .entry)) (now (store .exit))) ⌝ }
+{
+    let places = slots::read_places(store, child);
+    if !places.standard {
+        return false;
+    }
+    if 7 < places.count {
+        return false;
+    }
+    if places.count < i.0 {
+        return false;
+    }
+    let children = places.children;
+    if !slots::fits_depth(children, places.count, depth) {
+        return false;
+    }
+    let len = sep.len;
+    if 288 < len {
+        return false;
+    }
+    let slot = slots::slot_of(store, child);
+    let value = sep.value;
+    let key = sep.key;
+    if i.0 == 0 {
+        slots::insert_bytes(store, slot, 8, &key[0..len], value, right);
+        return true;
+    }
+    let before = i.0 - 1;
+    let place = places.starts[before] + places.lens[before] + 8;
+    slots::insert_bytes(store, slot, place, &key[0..len], value, right);
+    true
+}
+
 // A separator and the child right of it at an index of the node in a slot, which is read anew: what was called below it has
 // written meanwhile.
 pub fn insert_node(
@@ -67,6 +110,9 @@ pub fn insert_node(
 ) -> Outcome
     ensures { λ r. ⌜ ((e : Sep ℕ) → sep ≡ separatorOf e → Fit e → Makes (insertNodeM depth (now (store .entry)) (child .0) (i .0) e (right .0)) r (now (store .exit))) ⌝ }
 {
+    if insert_short(store, child, depth, i, sep, right) {
+        return Outcome::of(Came::Plain);
+    }
     let reading = slots::read_node_at(store, child, depth);
     let node = reading.node;
     let ending = reading.ending;

@@ -50,7 +50,7 @@ use Rattle.iter.specs.declared.LookedUp.the-variants as looked
 use Rattle.node.specs.declared.search.Turn as inside
 use Rattle.node.specs.declared.search.Sight.{Sight}
 use Rattle.node.specs.Search.{Sees}
-use Rattle.slots.specs.Search.{sightAt, SeesAt}
+use Rattle.slots.specs.Search.{SawAt, SeesAt}
 use Rattle.slots.proofs.SearchLaws.{sees-at}
 use Rattle.iter.specs.Walk.{foundHere, lookOn, lookFrom, lookupOf, Walked, bad, walked, onForward, onBackward, forwardFrom, backwardFrom}
 use Rattle.iter.specs.Cursor.{soughtOf, isLong, keyOf, movedTo, steppedOf, walkForward, walkBackward, forwardOf, backwardOf}
@@ -429,12 +429,12 @@ backward-arm e q = rw e q
 
 -- ---- what is seen in a node that is read
 
-module _ (s : List ℕ) (d : ℕ) (x : Child) (t : Turn) (k : Key) {v : Sight} (saw : v ≡ sightAt (inNode t) d s (x .0) k) where
+module _ (s : List ℕ) (d : ℕ) (x : Child) (t : Turn) (k : Key) {v : Sight} (saw : SawAt (inNode t) d s (x .0) k v) where
   abbrev places : Places
   places = placesAt d s (x .0)
 
   is-seen : SeesAt (inNode t) d s (x .0) k v
-  is-seen = subst (SeesAt (inNode t) d s (x .0) k) (sym saw) (sees-at (inNode t) d s (x .0) k)
+  is-seen = sees-at (inNode t) d s (x .0) k saw
 
   module _ (good : not (v .good) ≡ false) where
     seen : Sees (inNode t) places (bytesIn s (x .0)) k v
@@ -485,9 +485,9 @@ module _ (t : Turn) (a : Aim) (k : Key) (s : List ℕ) where
   abbrev pub WalkLeft : Candidate → ℕ → Child → Candidate → Type 0
   WalkLeft whole d x c = whole ≡ walkDown t a k (suc d) s x c
 
-  module _ (whole : Candidate) (d : ℕ) (x : Child) (c : Candidate) (left : WalkLeft whole d x c) {w : inside.Turn} (way : w ≡ inNode t) {v : Sight} (sees : v ≡ sightAt w d s (x .0) k) where
-    abbrev saw : v ≡ sightAt (inNode t) d s (x .0) k
-    saw = sees ∙ ap (λ (u : inside.Turn). sightAt u d s (x .0) k) way
+  module _ (whole : Candidate) (d : ℕ) (x : Child) (c : Candidate) (left : WalkLeft whole d x c) {w : inside.Turn} (way : w ≡ inNode t) {v : Sight} (sees : SawAt w d s (x .0) k v) where
+    saw : SawAt (inNode t) d s (x .0) k v
+    saw = subst (λ (u : inside.Turn). SawAt u d s (x .0) k v) way sees
 
     abbrev at-depth : Places
     at-depth = placesAt d s (x .0)

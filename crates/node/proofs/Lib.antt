@@ -7,6 +7,7 @@ pub mod ReadLaws
 pub mod FillLaws
 pub mod Theorems
 pub mod WriteLaws
+pub mod SpliceLaws
 pub mod ArrayLaws
 pub mod EditLaws
 pub mod PositionLaws

@@ -4,3 +4,4 @@ pub mod Mirror
 pub mod Edit
 pub mod EditMirror
 pub mod Search
+pub mod Splice

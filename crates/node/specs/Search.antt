@@ -3,14 +3,16 @@
 use mathlib.Core.Path.{_≡_}
 use mathlib.Core.List.{List, [], _∷_, map}
 use mathlib.Core.Bool.{Bool, true, false, _&&_, not}
-use Prim.Native.Nat.{ℕ, _+_, _-_, _<_}
+use Prim.Native.Nat.{ℕ, _+_, _-_, _≤_, _<_}
 use lib.ListN.{getD, take}
 use lib.Dec.{eqb, ltb}
 use Rattle.word.specs.Pick.{pick}
 use Rattle.word.specs.Key.{Key, cmp, orderOf}
 use Rattle.word.specs.Part.{part}
 use Rattle.word.specs.declared.Order.{Order}
+use Rattle.word.specs.declared.Order.the-variants.{Less, Equal, Greater}
 use Rattle.node.specs.declared.Child.{Child}
+use Rattle.node.specs.declared.Ending.{Ending}
 use Rattle.node.specs.declared.Places.{Places}
 use Rattle.node.specs.declared.edit.Found.{Found}
 use Rattle.node.specs.declared.search.Turn.{Turn}
@@ -23,6 +25,18 @@ use Rattle.node.specs.Layout.{childOf, valueOf, anyOf}
 use Rattle.node.specs.EditMirror.{found, goesOn, isEqual, positionOf}
 
 -- ---- one separator, one child
+
+-- the same two as numbers: a walk goes on behind a separator where the rank is not below the bar
+abbrev pub barOf : Turn → ℕ
+barOf First = 3
+barOf NotBelow = 2
+barOf Above = 1
+barOf Last = 0
+
+abbrev pub rankOf : Order → ℕ
+rankOf Less = 0
+rankOf Equal = 1
+rankOf Greater = 2
 
 -- whether the walk goes on behind a separator, to whose key the walk's has this order
 abbrev pub passes : Turn → Order → Bool
@@ -50,20 +64,26 @@ noSpot = record { start = 0; len = 0; value = valueOf 0 }
 abbrev pub emptySight : Bool → Sight
 emptySight b = record { good = b; turned = false; count = 0; found = found 0 false; child = childOf 0; here = noSpot; before = noSpot }
 
+abbrev pub withChild : Sight → Child → Sight
+withChild v c = record { good = v .good; turned = v .turned; count = v .count; found = v .found; child = c; here = v .here; before = v .before }
+
 -- a child: that of the walk until it has turned
 unfoldable pub metChild : Sight → Child → Sight
-metChild v c =
-    pick (v .turned) v
-    (record { good = v .good; turned = v .turned; count = v .count; found = v .found; child = c; here = v .here; before = v .before })
+metChild v c = pick (v .turned) v (withChild v c)
 
--- a separator x, to whose key the walk's has the order o
+-- a separator x: only counted, passed, or where the walk turns
+abbrev pub counted : Sight → Sight
+counted v = record { good = v .good; turned = v .turned; count = v .count + 1; found = v .found; child = v .child; here = v .here; before = v .before }
+
+abbrev pub behindSpot : Sight → Spot → Sight
+behindSpot v x = record { good = v .good; turned = v .turned; count = v .count + 1; found = found (v .count + 1) false; child = v .child; here = v .here; before = x }
+
+abbrev pub atSpot : Sight → Spot → Bool → Sight
+atSpot v x b = record { good = v .good; turned = true; count = v .count + 1; found = found (v .count) b; child = v .child; here = x; before = v .before }
+
+-- the walk's key has the order o to that of x
 unfoldable pub metSpot : Turn → Sight → Spot → Order → Sight
-metSpot t v x o =
-    pick (v .turned)
-    (record { good = v .good; turned = v .turned; count = v .count + 1; found = v .found; child = v .child; here = v .here; before = v .before })
-    (pick (passes t o)
-    (record { good = v .good; turned = v .turned; count = v .count + 1; found = found (v .count + 1) false; child = v .child; here = v .here; before = x })
-    (record { good = v .good; turned = true; count = v .count + 1; found = found (v .count) (meets t o); child = v .child; here = x; before = v .before }))
+metSpot t v x o = pick (v .turned) (counted v) (pick (passes t o) (behindSpot v x) (atSpot v x (meets t o)))
 
 -- ---- the walk along what is scanned
 
@@ -88,6 +108,27 @@ sightIn t leaf s k v r = pick (isAccepted (r .ending) && fitsKind leaf r) (along
 
 unfoldable pub sightOf : Turn → Bool → List ℕ → Key → Sight
 sightOf t leaf s k = sightIn t leaf s k (emptySight true) (scanFrom s 8 0)
+
+-- what `search` hands back: good exactly where sightOf is, and then all of it
+pub record Saw (t : Turn) (leaf : Bool) (s : List ℕ) (k : Key) (v : Sight) : Type 0 where
+  pub good-is : v .good ≡ sightOf t leaf s k .good
+  pub all-is : v .good ≡ true → v ≡ sightOf t leaf s k
+
+-- ---- what the parts of `search` hand back, behind a sight v of what stands before
+
+-- where the bytes end so
+pub record EndsIn (e : Ending) (v r : Sight) : Type 0 where
+  pub accepted-is : isAccepted e ≡ true → r ≡ v
+  pub refused-is : isAccepted e ≡ false → r .good ≡ false
+
+-- with no separator to come, whatever the walk is for
+abbrev pub SeesLast : Bool → List ℕ → Sight → ℕ → Sight → Type 0
+SeesLast leaf s v at r = (t : Turn) (k : Key) → sightOf t leaf s k ≡ sightIn t leaf s k v (scanFrom s 0 at) → Saw t leaf s k r
+
+-- once the walk has turned, whatever it is for
+abbrev pub GoesOn : Bool → List ℕ → Sight → ℕ → Sight → Type 0
+GoesOn leaf s v at r =
+    (t : Turn) (k : Key) → v .turned ≡ true → v .count ≤ 8 → sightOf t leaf s k ≡ sightIn t leaf s k v (scanFrom s (8 - v .count) at) → Saw t leaf s k r
 
 -- ---- the same by places
 

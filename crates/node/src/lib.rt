@@ -9,6 +9,7 @@ ghost use Rattle.word.specs.Part.{part};
 ghost use Rattle.node.specs.Codec.{headAt, keyAt, endingNumber, isAccepted, isNoByteLeft, sepLength};
 ghost use Rattle.node.specs.Layout.{placesOf, readingOf, keyPlace, anyFirst, isLong, isNone, writtenOf, leftBy, writtenNumber, writtenLength};
 ghost use Rattle.node.specs.Mirror.{emptyPlaces, endedWith, measured, putSep};
+ghost use Rattle.node.specs.Splice.{spliceIn};
 
 pub mod edit;
 pub mod search;
@@ -410,14 +411,7 @@ fn measure(count: usize, lens: [usize; 8], values: [Value; 8]) -> Written
 }
 
 // A separator at a place, its key being a part of the keys, where it is not too long and the destination has the bytes; else nothing.
-fn write_separator(
-    dst: &mut [u8],
-    at: usize,
-    keys: &[u8; 2304],
-    from: usize,
-    len: usize,
-    value: Value,
-)
+fn write_separator(dst: &mut [u8], at: usize, keys: &[u8], from: usize, len: usize, value: Value)
     requires { ⌜ from + len ≤ length (now keys) ⌝ }
     ensures { λ _. ⌜ now (dst .exit) ≡ putSep (now (dst .entry)) at (record { key = part (now (keys .entry)) from len; val = value .0 }) ⌝ }
 {
@@ -436,6 +430,36 @@ fn write_separator(
         word::write_u32(dst, at + 9, len as u32);
         word::copy(dst, at + 13, keys, from, len);
     }
+}
+
+// A separator and the child right of it put in at a place among the len bytes in front of dst, those behind the place moved
+// up: the new length. Nothing is done, and it is 0, where the key is too long, dst too short or the place not among them.
+pub fn splice(
+    dst: &mut [u8],
+    len: usize,
+    at: usize,
+    key: &[u8],
+    value: Value,
+    child: Child,
+) -> usize
+    ensures { λ r. ⌜ (r ≡ spliceIn (now (dst .entry)) len at (record { key = now (key .entry); val = value .0 }) (child .0) .len) × (now (dst .exit) ≡ spliceIn (now (dst .entry)) len at (record { key = now (key .entry); val = value .0 }) (child .0) .bytes) ⌝ }
+{
+    let size = key.len();
+    if 288 < size {
+        return 0;
+    }
+    let width = sep_length(size as u16);
+    let more = width + 8;
+    if !word::fits(dst.len(), len, more) {
+        return 0;
+    }
+    if len < at {
+        return 0;
+    }
+    word::move_up(dst, at, len - at, more);
+    write_separator(dst, at, key, 0, size, value);
+    word::write_u64(dst, at + width, child.0);
+    len + more
 }
 
 pub fn write(node: Node, dst: &mut [u8]) -> Written

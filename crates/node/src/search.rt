@@ -1,18 +1,17 @@
 // A walk along node bytes in one reading: the child where it turns down and the separators beside it. No places are built.
 use crate::Child;
+use crate::Ending;
 use crate::Head;
 use crate::Index;
 use crate::Value;
 use crate::edit::Found;
-use crate::edit::goes_on;
 use crate::edit::is_equal;
 use crate::read_separator;
 use word::Order;
 ghost use mathlib.Core.Path.{_≡_};
+ghost use mathlib.Core.Bool.{true, false};
 ghost use Prim.Native.Nat.{_<_};
-ghost use Rattle.word.specs.Key.{cmp, orderOf};
-ghost use Rattle.word.specs.Part.{part};
-ghost use Rattle.node.specs.Search.{passes, meets, misfits, emptySight, metChild, metSpot, sightOf};
+ghost use Rattle.node.specs.Search.{barOf, rankOf, passes, meets, misfits, emptySight, behindSpot, atSpot, Saw, EndsIn, SeesLast, GoesOn};
 
 // Where a walk along a node turns down: before the first separator, at the first whose key is not below the given one, at the
 // first above it, or behind the last.
@@ -43,16 +42,34 @@ pub struct Sight {
     pub before: Spot,
 }
 
-// Whether the walk goes on behind a separator, to whose key the given one has this order.
+// How high the order of the given key to a separator's must be for the walk to go on behind it.
+fn bar(turn: Turn) -> u8
+    ensures { λ r. ⌜ r ≡ barOf turn ⌝ }
+{
+    match turn {
+        Turn::First => 3,
+        Turn::NotBelow => 2,
+        Turn::Above => 1,
+        Turn::Last => 0,
+    }
+}
+
+fn rank(order: Order) -> u8
+    ensures { λ r. ⌜ r ≡ rankOf order ⌝ }
+{
+    match order {
+        Order::Less => 0,
+        Order::Equal => 1,
+        Order::Greater => 2,
+    }
+}
+
+// Whether the walk goes on behind a separator, to whose key the given one has this order. By numbers, since the compiler then
+// looks at the turn once before a loop.
 fn passes(turn: Turn, order: Order) -> bool
     ensures { λ r. ⌜ r ≡ passes turn order ⌝ }
 {
-    match turn {
-        Turn::First => false,
-        Turn::NotBelow => goes_on(order, false),
-        Turn::Above => goes_on(order, true),
-        Turn::Last => true,
-    }
+    bar(turn) <= rank(order)
 }
 
 // Whether the separator where it turns has the key.
@@ -104,10 +121,70 @@ impl Sight {
         }
     }
 
-    // A child: that of the walk until it has turned.
-    fn meet_child(self, child: Child) -> Sight
-        ensures { λ r. ⌜ r ≡ metChild self child ⌝ }
+    // Of bytes that are refused. The rest stays as it is, for nobody reads it: a loop that returns this has nothing to make ready.
+    fn spoilt(self) -> Sight
+        ensures { λ r. ⌜ r .good ≡ false ⌝ }
     {
+        let mut sight = self;
+        sight.good = false;
+        sight
+    }
+
+    // Where no further separator is read.
+    fn end_in(self, ending: Ending) -> Sight
+        ensures { λ r. ⌜ EndsIn ending self r ⌝ }
+    {
+        if ending.is_accepted() {
+            return self;
+        }
+        self.spoilt()
+    }
+
+    // A separator that the walk goes on behind.
+    fn go_behind(self, spot: Spot) -> Sight
+        requires { ⌜ self .count < 8 ⌝ }
+        ensures { λ r. ⌜ r ≡ behindSpot self spot ⌝ }
+    {
+        let mut sight = self;
+        let next = sight.count + 1;
+        sight.count = next;
+        let behind = Found {
+            index: Index(next),
+            at: false,
+        };
+        sight.found = behind;
+        sight.before = spot;
+        sight
+    }
+
+    // The separator where it turns.
+    fn turn_at(self, spot: Spot, met: bool) -> Sight
+        requires { ⌜ self .count < 8 ⌝ }
+        ensures { λ r. ⌜ r ≡ atSpot self spot met ⌝ }
+    {
+        let mut sight = self;
+        let there = Found {
+            index: Index(sight.count),
+            at: met,
+        };
+        sight.found = there;
+        sight.turned = true;
+        sight.here = spot;
+        sight.count += 1;
+        sight
+    }
+
+    // The child behind the eighth separator: that of the walk if it has not turned.
+    fn end_last(self, s: &[u8], at: usize, leaf: bool) -> Sight
+        ensures { λ r. ⌜ SeesLast leaf (now (s .entry)) self at r ⌝ }
+    {
+        if !word::fits(s.len(), at, 8) {
+            return self.spoilt();
+        }
+        let child = Child(word::read_u64(s, at));
+        if is_misfit(child, leaf) {
+            return self.spoilt();
+        }
         let mut sight = self;
         if !sight.turned {
             sight.child = child;
@@ -115,56 +192,58 @@ impl Sight {
         sight
     }
 
-    // A separator: the walk goes on behind it or turns there; once it has turned, it only counts.
-    fn meet_spot(self, s: &[u8], key: &[u8], turn: Turn, spot: Spot) -> Sight
-        ensures { λ r. ⌜ (self .count < 8 → r ≡ metSpot turn self spot (orderOf (cmp (now (key .entry)) (part (now (s .entry)) (spot .start) (spot .len))))) ⌝ }
+    // Behind the separator where it turned a walk only tests and counts.
+    fn go_on(self, s: &[u8], from: usize, leaf: bool) -> Sight
+        ensures { λ r. ⌜ GoesOn leaf (now (s .entry)) self from r ⌝ }
     {
         let mut sight = self;
-        let i = sight.count;
-        if 7 < i {
-            return sight;
+        let mut at = from;
+        while sight.count < 8 {
+            if !word::fits(s.len(), at, 8) {
+                return sight.spoilt();
+            }
+            if is_misfit(Child(word::read_u64(s, at)), leaf) {
+                return sight.spoilt();
+            }
+            at += 8;
+            if at == s.len() {
+                return sight;
+            }
+            let head = read_separator(s, at);
+            match head {
+                Head::Ended(ending) => {
+                    return sight.end_in(ending);
+                }
+                Head::Separator {
+                    value,
+                    start,
+                    len,
+                    plain,
+                } => {
+                    at = start + len;
+                }
+            }
+            sight.count += 1;
         }
-        sight.count = i + 1;
-        if sight.turned {
-            return sight;
-        }
-        let order = word::compare_part(key, s, spot.start, spot.len);
-        if passes(turn, order) {
-            let behind = Found {
-                index: Index(i + 1),
-                at: false,
-            };
-            sight.found = behind;
-            sight.before = spot;
-            return sight;
-        }
-        let there = Found {
-            index: Index(i),
-            at: meets(turn, order),
-        };
-        sight.found = there;
-        sight.turned = true;
-        sight.here = spot;
-        sight
+        sight.end_last(s, at, leaf)
     }
 }
 
 // "A node read must have .. readable bytes and children that fit its depth (none at 0; separators plus one above)".
 pub fn search(s: &[u8], key: &[u8], turn: Turn, leaf: bool) -> Sight
-    ensures { λ r. ⌜ r ≡ sightOf turn leaf (now (s .entry)) (now (key .entry)) ⌝ }
+    ensures { λ r. ⌜ Saw turn leaf (now (s .entry)) (now (key .entry)) r ⌝ }
 {
     let mut sight = Sight::start(true);
     let mut at: usize = 0;
-    let mut i: usize = 0;
-    while i < 8 {
+    while sight.count < 8 {
         if !word::fits(s.len(), at, 8) {
-            return Sight::start(false);
+            return sight.spoilt();
         }
         let child = Child(word::read_u64(s, at));
         if is_misfit(child, leaf) {
-            return Sight::start(false);
+            return sight.spoilt();
         }
-        sight = sight.meet_child(child);
+        sight.child = child;
         at += 8;
         if at == s.len() {
             return sight;
@@ -172,10 +251,7 @@ pub fn search(s: &[u8], key: &[u8], turn: Turn, leaf: bool) -> Sight
         let head = read_separator(s, at);
         match head {
             Head::Ended(ending) => {
-                if ending.is_accepted() {
-                    return sight;
-                }
-                return Sight::start(false);
+                return sight.end_in(ending);
             }
             Head::Separator {
                 value,
@@ -183,27 +259,20 @@ pub fn search(s: &[u8], key: &[u8], turn: Turn, leaf: bool) -> Sight
                 len,
                 plain,
             } => {
+                let spot = Spot {
+                    start: start,
+                    len: len,
+                    value: value,
+                };
                 at = start + len;
-                sight = sight.meet_spot(
-                    s,
-                    key,
-                    turn,
-                    Spot {
-                        start: start,
-                        len: len,
-                        value: value,
-                    },
-                );
+                let order = word::compare_part(key, s, start, len);
+                if !passes(turn, order) {
+                    let there = sight.turn_at(spot, meets(turn, order));
+                    return there.go_on(s, at, leaf);
+                }
+                sight = sight.go_behind(spot);
             }
         }
-        i += 1;
     }
-    if !word::fits(s.len(), at, 8) {
-        return Sight::start(false);
-    }
-    let child = Child(word::read_u64(s, at));
-    if is_misfit(child, leaf) {
-        return Sight::start(false);
-    }
-    sight.meet_child(child)
+    sight.end_last(s, at, leaf)
 }

@@ -332,7 +332,7 @@ wrote n d written.NoValue e h = absurd (h refl)
 wrote n d written.ShortDestination e h = absurd (h refl)
 
 -- a part lent and given back
-given-back : (s : List ℕ) (from n : ℕ) (e : List ℕ) → length e ≡ n → take from s ++ (e ++ drop n (drop from s)) ≡ over s from e
+pub given-back : (s : List ℕ) (from n : ℕ) (e : List ℕ) → length e ≡ n → take from s ++ (e ++ drop n (drop from s)) ≡ over s from e
 unfolding over
 given-back s from n e h = rw (drop-drop, ← h)
 

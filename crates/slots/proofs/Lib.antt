@@ -10,4 +10,5 @@ pub mod Reached
 pub mod Paragraph
 pub mod Theorems
 pub mod CodeLaws
+pub mod SpliceLaws
 pub mod SearchLaws

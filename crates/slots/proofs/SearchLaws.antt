@@ -16,10 +16,10 @@ use Rattle.node.specs.declared.search.Sight.{Sight}
 use Rattle.node.specs.Codec.{isAccepted, scanFrom}
 use Rattle.node.specs.Layout.{layout, placesOf, anyOf}
 use Rattle.node.specs.Search as node
-use Rattle.node.specs.Search.{emptySight, sightIn, sightOf, Sees, fitsPlaces}
+use Rattle.node.specs.Search.{emptySight, sightIn, sightOf, Saw, Sees, fitsPlaces}
 use Rattle.node.proofs.SearchLaws.{sight-good, sight-sees}
 use Rattle.slots.specs.Code.{bytesIn, placesIn, misfits, childrenFit, fitsDepth, placesAt}
-use Rattle.slots.specs.Search.{sightAt, SeesAt}
+use Rattle.slots.specs.Search.{sightAt, SawAt, SeesAt}
 use Rattle.slots.proofs.CodeLaws.{both-true, no-places}
 
 -- ---- a node at depth 0 is a leaf, and the child tests are the same
@@ -78,17 +78,24 @@ module _ (t : Turn) (d : ℕ) (s : List ℕ) (x : ℕ) (k : Key) where
   unfolding placesAt
   kept-at h = pickT _ _ (both-true (isAccepted (placesIn s x .ending)) (fitsDepth d (placesIn s x .count) (placesIn s x .children)) (sym good-in ∙ h) .1)
 
-  pub sees-at : SeesAt t d s x k (sightAt t d s x k)
-  sees-at = record {
-    good-is = good-at;
-    sees = λ h. subst (λ (p : Places). Sees t p (bytesIn s x) k (sightAt t d s x k)) (sym (kept-at h)) (sees-in h);
+  pub sees-at : {v : Sight} → SawAt t d s x k v → SeesAt t d s x k v
+  sees-at {v} w = record {
+    good-is = w .good-is ∙ good-at;
+    sees = λ h.
+        let good : sightAt t d s x k .good ≡ true = sym (w .good-is) ∙ h in
+        let all : Sees t (placesAt d s x) (bytesIn s x) k (sightAt t d s x k) = subst (λ (p : Places). Sees t p (bytesIn s x) k (sightAt t d s x k)) (sym (kept-at good)) (sees-in good) in
+        subst (Sees t (placesAt d s x) (bytesIn s x) k) (sym (w .all-is h)) all;
   }
 
   -- ---- the code
 
-  pub search-at : {b : List ℕ} {v : Sight} → b ≡ bytesIn s x → v ≡ sightOf t (eqb d 0) b k → v ≡ sightAt t d s x k
+  pub search-at : {b : List ℕ} {v : Sight} → b ≡ bytesIn s x → Saw t (eqb d 0) b k v → SawAt t d s x k v
   unfolding sightAt
-  search-at p q = q ∙ ap (λ (b : List ℕ). sightOf t (eqb d 0) b k) p
+  search-at {b} {v} p q =
+      let w : Saw t (eqb d 0) (bytesIn s x) k v = subst (λ (b : List ℕ). Saw t (eqb d 0) b k v) p q in
+      record { good-is = w .good-is; all-is = w .all-is }
 
-  pub nothing-seen : {v : Sight} → [] ≡ bytesIn s x → v ≡ emptySight false → v ≡ sightAt t d s x k
-  nothing-seen p q = search-at p (q ∙ sym (sight-none t (eqb d 0) k))
+  pub nothing-seen : {v : Sight} → [] ≡ bytesIn s x → v ≡ emptySight false → SawAt t d s x k v
+  nothing-seen {v} p q =
+      let e : v ≡ sightOf t (eqb d 0) [] k = q ∙ sym (sight-none t (eqb d 0) k) in
+      search-at p (record { good-is = ap (λ (u : Sight). u .good) e; all-is = λ h. e })

@@ -5,5 +5,6 @@ pub mod Stands
 pub mod Entries
 pub mod Format
 pub mod Code
+pub mod Splice
 pub mod Search
 pub mod Reached

@@ -16,6 +16,11 @@ use Rattle.slots.specs.Code.{bytesIn, placesAt}
 unfoldable pub sightAt : Turn → ℕ → List ℕ → ℕ → Key → Sight
 sightAt t d s x k = sightOf t (eqb d 0) (bytesIn s x) k
 
+-- what `search_at` hands back: good exactly where sightAt is, and then all of it
+pub record SawAt (t : Turn) (d : ℕ) (s : List ℕ) (x : ℕ) (k : Key) (v : Sight) : Type 0 where
+  pub good-is : v .good ≡ sightAt t d s x k .good
+  pub all-is : v .good ≡ true → v ≡ sightAt t d s x k
+
 -- what is seen in a slot: good exactly where its places are not refused at this depth
 pub record SeesAt (t : Turn) (d : ℕ) (s : List ℕ) (x : ℕ) (k : Key) (v : Sight) : Type 0 where
   pub good-is : v .good ≡ isAccepted (placesAt d s x .ending)

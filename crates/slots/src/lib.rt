@@ -5,12 +5,14 @@ ghost use Prim.Native.Nat.{_-_};
 ghost use Rattle.slots.specs.Layout.{start, rootOf, depthOf, countOf, firstOf, isStore};
 ghost use Rattle.slots.specs.Mirror.{isSlot, takeSlot, freeSlot, setRoot};
 ghost use Rattle.slots.specs.Code.{hasSize, slotOf, bytesIn, placesIn, readingIn, misfits, fitsDepth, readingAt, writtenIn, hasFree, linked, formatNumber, Formats};
-ghost use Rattle.slots.specs.Search.{sightAt};
+ghost use Rattle.slots.specs.Search.{SawAt};
+ghost use Rattle.slots.specs.Splice.{insertedBytes};
 use node::Child;
 use node::Node;
 use node::Places;
 use node::Reading;
 use node::Slot;
+use node::Value;
 use node::search::Sight;
 use node::search::Turn;
 
@@ -238,7 +240,7 @@ pub fn read_node_at(store: &[u8], child: Child, depth: u32) -> Reading
 // depth. The tests are those of `node_bytes`; each ends the search at once, so that a processor reads on in the node before its
 // length has come from memory.
 pub fn search_at(store: &[u8], child: Child, depth: u32, key: &[u8], turn: Turn) -> Sight
-    ensures { λ r. ⌜ r ≡ sightAt turn depth (now (store .entry)) (child .0) (now (key .entry)) ⌝ }
+    ensures { λ r. ⌜ SawAt turn depth (now (store .entry)) (child .0) (now (key .entry)) r ⌝ }
 {
     let slot = slot_of(store, child);
     if slot.0 == 0 {
@@ -271,6 +273,34 @@ pub fn write_node(store: &mut [u8], slot: Slot, node: Node)
     let to = at + SLOT_SIZE;
     let written = node::write(node, &mut store[from..to]);
     let len = written.length();
+    if len == 0 {
+        return;
+    }
+    word::write_u32(store, at, len as u32);
+    word::clear(store, from + len, NODE_ROOM - len);
+}
+
+// A separator and the child right of it put in at a place among the bytes of the node in a slot; nothing where there is no
+// slot or the bytes don't take them. It is what `write_node` makes of the longer node where the bytes are in standard form,
+// with no node read and written.
+pub fn insert_bytes(
+    store: &mut [u8],
+    slot: Slot,
+    place: usize,
+    key: &[u8],
+    value: Value,
+    child: Child,
+)
+    ensures { λ _. ⌜ now (store .exit) ≡ insertedBytes (now (store .entry)) (slot .0) place (record { key = now (key .entry); val = value .0 }) (child .0) ⌝ }
+{
+    if !is_slot(store, slot.0 as u64) {
+        return;
+    }
+    let at = start_of(slot);
+    let from = at + 4;
+    let to = at + SLOT_SIZE;
+    let old = word::read_u32(store, at) as usize;
+    let len = node::splice(&mut store[from..to], old, place, key, value, child);
     if len == 0 {
         return;
     }

@@ -4,7 +4,7 @@ use mathlib.Core.Path.{_≡_, refl, sym, _∙_}
 use mathlib.Core.Logic.{_⊎_, ⊎-elim}
 use mathlib.Core.List.{List}
 use mathlib.Core.Bool.{Bool, true, false}
-use Prim.Native.Nat.{ℕ, _+_, _*_, _/_, _%_, _^_, _≤_, _<_}
+use Prim.Native.Nat.{ℕ, _+_, _/_, _%_, _^_, _≤_, _<_}
 use lib.ListN.{length}
 use native.Mathlib.Nat.{one-le-pow}
 use native.Mathlib.Omega.{arith}
@@ -13,8 +13,8 @@ use Rattle.word.specs.Pick.{pickT, pickF, by-test}
 use Rattle.word.specs.Part.{part, over}
 use Rattle.word.specs.Num.{le, un, Bytes, zeros, allZero}
 use Rattle.word.specs.At.{fitsIn, readAt, writeAt, copyAt, clearAt, zeroAt}
-use Rattle.word.proofs.PartLaws.{length-part, length-over, part-over, part-before, part-behind, part-add, over-beside}
-use Rattle.word.proofs.NumLaws.{length-le, un-le, un-small, un-append, le-append, length-zeros, bytes-part, allZero-zeros, allZero-true}
+use Rattle.word.proofs.PartLaws.{length-part, length-over, part-over, part-before, part-behind, over-beside}
+use Rattle.word.proofs.NumLaws.{length-le, un-le, un-small, le-append, length-zeros, bytes-part, allZero-zeros, allZero-true}
 
 -- the range test
 module _ (len at n : ℕ) where
@@ -98,11 +98,7 @@ module _ (k : ℕ) (s : List ℕ) (at x : ℕ) where
       (⊎-elim (λ p. part-behind s at b j (le k x) (omega arith) (rw length-le p)) (λ p. part-before s at b j (le k x) (omega arith) p) apart))
       (λ e. refl)
 
--- two numbers side by side are one of both widths
-pub readAt-beside : (j k : ℕ) (s : List ℕ) (at : ℕ) → at + (j + k) ≤ length s → readAt j s at + readAt k s (at + j) * 256 ^ j ≡ readAt (j + k) s at
-readAt-beside j k s at h =
-    rw (readAt-in j s at (omega arith), readAt-in k s (at + j) (omega arith), readAt-in (j + k) s at h, part-add s at j k, un-append (part s at j) (part s (at + j) k), length-part s at j (omega arith))
-
+-- two numbers written side by side are one of both widths
 pub writeAt-beside : (j k : ℕ) (s : List ℕ) (at x : ℕ) → at + (j + k) ≤ length s → x < 256 ^ (j + k)
     → writeAt k (writeAt j s at (x % 256 ^ j)) (at + j) (x / 256 ^ j) ≡ writeAt (j + k) s at x
 writeAt-beside j k s at x h small =

@@ -17,7 +17,7 @@ use Rattle.word.specs.Num.{le, un, be, Bytes, zeros, allZero}
 use Rattle.word.specs.At.{readAt, writeAt, copyAt, clearAt, zeroAt}
 use Rattle.word.proofs.KeyOrder.{num-lt, num-gt, num-refl, cmp-front, cmp-eq, cmp-append, cmp-be}
 use Rattle.word.proofs.PartLaws.{length-part, length-part-cut, length-over, part-none, part-more, part-add, part-part, drop-split, over-none, over-beside, set-over}
-use Rattle.word.proofs.NumLaws.{length-zeros, zeros-append, allZero-append, allZero-one, length-le, be-append, bytes-part}
+use Rattle.word.proofs.NumLaws.{length-zeros, zeros-append, allZero-append, allZero-one, length-le, be-append, un-append, un-same, bytes-part}
 use Rattle.word.proofs.AtLaws.{readAt-in, writeAt-in, copyAt-in, clearAt-in, zeroAt-in}
 
 -- a byte stored behind those that are stored already
@@ -98,16 +98,6 @@ abbrev pub Reads : List ℕ → ℕ → ℕ → List ℕ → Type 0
 Reads s a i [] = Unit {0}
 Reads s a i (b ∷ bs) = (b ≡ getD s (a + i) 0) × Reads s a (suc i) bs
 
--- it joins them by multiples that grow
-abbrev pub joined : ℕ → ℕ → List ℕ → ℕ
-joined r m [] = r
-joined r m (b ∷ bs) = joined (r + b * m) (m * 256) bs
-
-joined-un : (r m : ℕ) (bs : List ℕ) → joined r m bs ≡ r + un bs * m
-unfolding un
-joined-un r m [] = omega arith
-joined-un r m (b ∷ bs) = joined-un (r + b * m) (m * 256) bs ∙ omega arith
-
 reads-part : (s : List ℕ) (a i : ℕ) (bs : List ℕ) → a + i + length bs ≤ length s → Reads s a i bs → bs ≡ part s (a + i) (length bs)
 unfolding part
 reads-part s a i [] h r = refl
@@ -116,23 +106,34 @@ reads-part s a i (b ∷ bs) h r =
     let ih = rw e at (reads-part s a (suc i) bs (omega arith) (r .1)) in
     rw (drop-cons s (a + i) 0 (omega arith)) (cc (r .0, ih))
 
-reads-all : (s : List ℕ) (at b : ℕ) (bs : List ℕ) → at + suc (length bs) ≤ length s → b ≡ getD s at 0 → Reads s at 1 bs → b ∷ bs ≡ part s at (suc (length bs))
-reads-all s at b bs h p r =
-    let e : at + 0 ≡ at = omega arith in
-    rw e at (reads-part s at 0 (b ∷ bs) (omega arith) (rw e p, r))
+-- a number of what it reads is that of the part
+module _ (s : List ℕ) (at b : ℕ) (bs : List ℕ) {v : ℕ} where
+  pub reads-by : (f : List ℕ → ℕ) → v ≡ f (b ∷ bs) → at + suc (length bs) ≤ length s → b ≡ getD s at 0 → Reads s at 1 bs → v ≡ f (part s at (suc (length bs)))
+  reads-by f q h p r =
+      let e : at + 0 ≡ at = omega arith in
+      q ∙ ap f (rw e at (reads-part s at 0 (b ∷ bs) (omega arith) (rw e p, r)))
 
-pub read-straight : (s : List ℕ) (at b : ℕ) (bs : List ℕ) → at + suc (length bs) ≤ length s → b ≡ getD s at 0 → Reads s at 1 bs → joined b 256 bs ≡ readAt (suc (length bs)) s at
-unfolding un
-read-straight s at b bs h p r = joined-un b 256 bs ∙ ap un (reads-all s at b bs h p r) ∙ sym (readAt-in (suc (length bs)) s at h)
+  pub reads-at : v ≡ un (b ∷ bs) → at + suc (length bs) ≤ length s → b ≡ getD s at 0 → Reads s at 1 bs → v ≡ readAt (suc (length bs)) s at
+  reads-at q h p r = reads-by un q h p r ∙ sym (readAt-in (suc (length bs)) s at h)
 
--- `read_be` joins two halves
-pub read-halves : (s : List ℕ) (at b : ℕ) (high low : List ℕ) {v w : ℕ} → at + suc (length (high ++ low)) ≤ length s → b ≡ getD s at 0 → Reads s at 1 (high ++ low)
-    → v ≡ be (b ∷ high) → w ≡ be low → v * 256 ^ length low + w ≡ be (part s at (suc (length (high ++ low))))
-read-halves s at b high low h p r e f = rw (e, f) (sym (be-append (b ∷ high) low) ∙ ap be (reads-all s at b (high ++ low) h p r))
+-- two halves of a number
+module _ (a b : List ℕ) {v w : ℕ} where
+  pub be-halves : v ≡ be a → w ≡ be b → v * 256 ^ length b + w ≡ be (a ++ b)
+  be-halves e f = rw (e, f) (sym (be-append a b))
+
+  pub un-halves : v ≡ un a → w ≡ un b → v + w * 256 ^ length a ≡ un (a ++ b)
+  un-halves e f = rw (e, f) (sym (un-append a b))
+
+part-one : (s : List ℕ) (i : ℕ) → i < length s → part s i 1 ≡ getD s i 0 ∷ []
+unfolding part
+part-one s i h = rw (drop-cons s i 0 h)
 
 pub be-one : (s : List ℕ) (i : ℕ) → i < length s → getD s i 0 ≡ be (part s i 1)
-unfolding part be
-be-one s i h = rw (drop-cons s i 0 h) (omega arith)
+unfolding be
+be-one s i h = rw (part-one s i h) (omega arith)
+
+pub same-one : (a : List ℕ) (i : ℕ) (b : List ℕ) (j : ℕ) → i < length a → j < length b → getD a i 0 ≡ getD b j 0 → part a i 1 ≡ part b j 1
+same-one a i b j h g e = part-one a i h ∙ ap (λ (x : ℕ). x ∷ []) e ∙ sym (part-one b j g)
 
 -- the loops of `compare_part`: i bytes are the same
 pub front-start : (a b : List ℕ) (from : ℕ) → part a 0 0 ≡ part b from 0
@@ -166,30 +167,41 @@ module _ (key s : List ℕ) (at n i : ℕ) (front : part key 0 i ≡ part s at i
   pub compare-ended : length key ≤ i → length (part s at n) ≤ i → Equal ≡ orderOf (cmp key (part s at n))
   compare-ended h g = rw (behind, drop-of-length-le key h, drop-of-length-le (part s at n) g)
 
-  -- k bytes more, as the numbers v and w
-  module _ (k : ℕ) {v w : ℕ} (p : Bytes key) (q : Bytes s) (h : i + k ≤ length key) (g : i + k ≤ length (part s at n)) (e : v ≡ be (part key i k)) (f : w ≡ be (part s (at + i) k)) where
-    numbers : cmp (part key i k) (part s (at + i) k) ≡ compare v w
-    numbers =
-        rw (e, f)
-        (cmp-be (part key i k) (part s (at + i) k) (bytes-part key i k p) (bytes-part s (at + i) k q)
-        (length-part key i k h ∙ sym (length-part (part s at n) i k g) ∙ ap length (part-part s at n i k (omega (arith, length-part-cut s at n)))))
+  -- k bytes more that are the same
+  pub compare-turn : (k : ℕ) → part key i k ≡ part s (at + i) k → part key 0 (i + k) ≡ part s at (i + k)
+  compare-turn k e = let z : 0 + i ≡ i = omega arith in rw (part-add key 0 i k, part-add s at i k, z, front, e)
 
-    more : cmp key (part s at n) ≡ pick3 (compare v w) Ordering·lt (cmp (drop (i + k) key) (drop (i + k) (part s at n))) Ordering·gt
-    more =
-        let t : List ℕ = part s at n in
-        let l : length (part key i k) ≡ length (part t i k) = length-part key i k h ∙ sym (length-part t i k g) in
-        behind
-        ∙ rw (drop-split key i k, drop-split t i k)
-        (cmp-append (part key i k) (part t i k) (drop (i + k) key) (drop (i + k) t) l
-        ∙ rw (part-part s at n i k (omega (arith, length-part-cut s at n)), numbers))
+  -- k bytes more of both
+  module _ (k : ℕ) (p : Bytes key) (q : Bytes s) (h : i + k ≤ length key) (g : i + k ≤ length (part s at n)) where
+    in-part : part (part s at n) i k ≡ part s (at + i) k
+    in-part = part-part s at n i k (omega (arith, length-part-cut s at n))
 
-    pub compare-less : v < w → Less ≡ orderOf (cmp key (part s at n))
-    compare-less l = rw (more, num-lt v w l)
+    as-many : length (part key i k) ≡ length (part s (at + i) k)
+    as-many = length-part key i k h ∙ sym (length-part (part s at n) i k g) ∙ ap length in-part
 
-    pub compare-greater : w < v → Greater ≡ orderOf (cmp key (part s at n))
-    compare-greater l = rw (more, num-gt v w l)
+    -- as they stand, the numbers x and y
+    pub alike-turn : {x y : ℕ} → x ≡ un (part key i k) → y ≡ un (part s (at + i) k) → x ≡ y → part key 0 (i + k) ≡ part s at (i + k)
+    alike-turn r t l = compare-turn k (un-same (part key i k) (part s (at + i) k) (bytes-part key i k p) (bytes-part s (at + i) k q) as-many (sym r ∙ l ∙ t))
 
-    pub compare-turn : v ≡ w → part key 0 (i + k) ≡ part s at (i + k)
-    compare-turn l =
-        let z : 0 + i ≡ i = omega arith in
-        rw (part-add key 0 i k, part-add s at i k, z, front, cmp-eq (part key i k) (part s (at + i) k) (numbers ∙ rw l (num-refl w)))
+    -- the highest first, the numbers v and w
+    module _ {v w : ℕ} (e : v ≡ be (part key i k)) (f : w ≡ be (part s (at + i) k)) where
+      numbers : cmp (part key i k) (part s (at + i) k) ≡ compare v w
+      numbers = rw (e, f) (cmp-be (part key i k) (part s (at + i) k) (bytes-part key i k p) (bytes-part s (at + i) k q) as-many)
+
+      more : cmp key (part s at n) ≡ pick3 (compare v w) Ordering·lt (cmp (drop (i + k) key) (drop (i + k) (part s at n))) Ordering·gt
+      more =
+          behind
+          ∙ rw (drop-split key i k, drop-split (part s at n) i k, in-part)
+          (cmp-append (part key i k) (part s (at + i) k) (drop (i + k) key) (drop (i + k) (part s at n)) as-many ∙ rw numbers)
+
+      pub compare-less : v < w → Less ≡ orderOf (cmp key (part s at n))
+      compare-less l = rw (more, num-lt v w l)
+
+      pub compare-greater : w < v → Greater ≡ orderOf (cmp key (part s at n))
+      compare-greater l = rw (more, num-gt v w l)
+
+      -- those that differ as they stand differ here too
+      pub unlike-greater : {x y : ℕ} → x ≡ un (part key i k) → y ≡ un (part s (at + i) k) → (x ≡ y → ⊥) → w ≤ v → Greater ≡ orderOf (cmp key (part s at n))
+      unlike-greater r t d l =
+          let apart : v ≡ w → ⊥ = λ z. d (r ∙ ap un (cmp-eq (part key i k) (part s (at + i) k) (numbers ∙ rw z (num-refl w))) ∙ sym t) in
+          compare-greater (omega (arith, apart))

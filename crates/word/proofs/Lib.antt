@@ -3,3 +3,4 @@ pub mod PartLaws
 pub mod NumLaws
 pub mod AtLaws
 pub mod CodeLaws
+pub mod MoveLaws

@@ -25,6 +25,10 @@ writeAt k s at x = pick (fitsIn (length s) at k) (over s at (le k x)) s
 unfoldable pub copyAt : List ℕ → ℕ → List ℕ → ℕ → ℕ → List ℕ
 copyAt d at s from n = pick (fitsIn (length d) at n) (pick (fitsIn (length s) from n) (over d at (part s from n)) d) d
 
+-- s with its n bytes from `at` on written higher up too
+unfoldable pub moveAt : List ℕ → ℕ → ℕ → ℕ → List ℕ
+moveAt s at n up = pick (fitsIn (length s) at n) (pick (fitsIn (length s) (at + n) up) (over s (at + up) (part s at n)) s) s
+
 unfoldable pub clearAt : List ℕ → ℕ → ℕ → List ℕ
 clearAt d at n = pick (fitsIn (length d) at n) (over d at (zeros n)) d
 

@@ -6,8 +6,8 @@ ghost use Prim.Native.Nat.{min, _+_, _-_, _<_, _≤_};
 ghost use lib.ListN.{length};
 ghost use Rattle.word.specs.Key.{cmp, orderOf};
 ghost use Rattle.word.specs.Part.{part};
-ghost use Rattle.word.specs.Num.{be};
-ghost use Rattle.word.specs.At.{fitsIn, readAt, writeAt, copyAt, clearAt, zeroAt};
+ghost use Rattle.word.specs.Num.{un, be};
+ghost use Rattle.word.specs.At.{fitsIn, readAt, writeAt, copyAt, moveAt, clearAt, zeroAt};
 
 pub enum Order {
     Less,
@@ -34,6 +34,13 @@ fn wide(b: u8) -> u64
     b as u64
 }
 
+// Four bytes as one number, the highest first; told backwards, the lowest first.
+fn join(a: u8, b: u8, c: u8, d: u8) -> u64
+    ensures { λ r. ⌜ (r ≡ be (a ∷ b ∷ c ∷ d ∷ [])) × (r ≡ un (d ∷ c ∷ b ∷ a ∷ [])) × (r < 4294967296) ⌝ }
+{
+    wide(a) * 16777216 + wide(b) * 65536 + wide(c) * 256 + wide(d)
+}
+
 pub fn read_u16(s: &[u8], at: usize) -> u16
     ensures { λ r. ⌜ r ≡ readAt 2 (now (s .entry)) at ⌝ }
 {
@@ -49,10 +56,18 @@ pub fn read_u32(s: &[u8], at: usize) -> u32
     if !fits(s.len(), at, 4) {
         return 0;
     }
-    (wide(s[at])
-        + wide(s[at + 1]) * 256
-        + wide(s[at + 2]) * 65536
-        + wide(s[at + 3]) * 16777216) as u32
+    join(s[at + 3], s[at + 2], s[at + 1], s[at]) as u32
+}
+
+// The eight bytes of s from `at` on as one number, the lowest first, as they stand in memory. The caller knows that they are
+// there. It is a sum of halves, since the compiler makes one load of that; of a sum of eight it does not everywhere.
+fn read_le(s: &[u8], at: usize) -> u64
+    requires { ⌜ at + 8 ≤ length (now s) ⌝ }
+    ensures { λ r. ⌜ r ≡ un (part (now (s .entry)) at 8) ⌝ }
+{
+    let low = join(s[at + 3], s[at + 2], s[at + 1], s[at]);
+    let high = join(s[at + 7], s[at + 6], s[at + 5], s[at + 4]);
+    low + high * 4294967296
 }
 
 pub fn read_u64(s: &[u8], at: usize) -> u64
@@ -61,9 +76,7 @@ pub fn read_u64(s: &[u8], at: usize) -> u64
     if !fits(s.len(), at, 8) {
         return 0;
     }
-    let low = read_u32(s, at);
-    let high = read_u32(s, at + 4);
-    low as u64 + (high as u64) * 4294967296
+    read_le(s, at)
 }
 
 pub fn write_u16(s: &mut [u8], at: usize, x: u16)
@@ -109,6 +122,24 @@ pub fn copy(dst: &mut [u8], at: usize, src: &[u8], from: usize, n: usize)
     while i < n {
         dst[at + i] = src[from + i];
         i += 1;
+    }
+}
+
+// The n bytes of s from `at` on, written higher up by so many too, where s has them there: the last first, so that none is
+// written over before it is read.
+pub fn move_up(s: &mut [u8], at: usize, n: usize, up: usize)
+    ensures { λ _. ⌜ now (s .exit) ≡ moveAt (now (s .entry)) at n up ⌝ }
+{
+    if !fits(s.len(), at, n) {
+        return;
+    }
+    if !fits(s.len(), at + n, up) {
+        return;
+    }
+    let mut i = n;
+    while 0 < i {
+        i -= 1;
+        s[at + up + i] = s[at + i];
     }
 }
 
@@ -159,13 +190,6 @@ fn within(len: usize, at: usize, n: usize) -> usize
     n
 }
 
-// Four bytes as one number, the highest first.
-fn join(a: u8, b: u8, c: u8, d: u8) -> u64
-    ensures { λ r. ⌜ (r ≡ be (a ∷ b ∷ c ∷ d ∷ [])) × (r < 4294967296) ⌝ }
-{
-    wide(a) * 16777216 + wide(b) * 65536 + wide(c) * 256 + wide(d)
-}
-
 // The eight bytes of s from `at` on as one number, the highest first, so that the order of two such numbers is that of
 // the bytes. The caller knows that they are there: it is one load.
 fn read_be(s: &[u8], at: usize) -> u64
@@ -179,7 +203,7 @@ fn read_be(s: &[u8], at: usize) -> u64
 
 // The order of a key and the n bytes of s from `at` on, cut at the end of s: eight bytes of both at a time, and the last
 // fewer than eight one by one. Whether they differ is tested apart from which is less, since a processor foresees the first
-// better than the second.
+// better than the second; and it is tested on the bytes as they stand, so that those that are alike are never swapped.
 pub fn compare_part(key: &[u8], s: &[u8], at: usize, n: usize) -> Order
     ensures { λ r. ⌜ r ≡ orderOf (cmp (now (key .entry)) (part (now (s .entry)) at n)) ⌝ }
 {
@@ -187,9 +211,9 @@ pub fn compare_part(key: &[u8], s: &[u8], at: usize, n: usize) -> Order
     let both = within(key.len(), 0, len);
     let mut i = 0;
     while 8 <= both - i {
-        let mine = read_be(key, i);
-        let other = read_be(s, at + i);
-        if mine != other {
+        if read_le(key, i) != read_le(s, at + i) {
+            let mine = read_be(key, i);
+            let other = read_be(s, at + i);
             if mine < other {
                 return Order::Less;
             }

@@ -1,7 +1,7 @@
 -- `word::join` meets its contract. Assumes nothing.
 use native.Mathlib.Omega.{arith}
 use borrow.Author.Needs.{needs}
-use Rattle.word.specs.Num.{be}
+use Rattle.word.specs.Num.{be, un}
 use Rattle.word.proofs.join.Statement.{statement}
 use Rattle.word.proofs.join.Tie as tie
 
@@ -19,4 +19,4 @@ join-spec =
     (λ c. search needs)  -- add-result-2
     (λ c κs. search needs)  -- wide-requires-4
     (λ c. search needs)  -- add-result-3
-    (λ c. (unfold be in omega arith, omega arith)))  -- returns
+    (λ c. (unfold be in omega arith, unfold un in omega arith, omega arith)))  -- returns

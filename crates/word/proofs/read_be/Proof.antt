@@ -2,7 +2,8 @@
 use mathlib.Core.Path.{refl}
 use native.Mathlib.Omega.{arith}
 use borrow.Author.Needs.{needs}
-use Rattle.word.proofs.CodeLaws.{read-halves}
+use Rattle.word.specs.Num.{be}
+use Rattle.word.proofs.CodeLaws.{reads-by, be-halves}
 use Rattle.word.proofs.read_be.Statement.{statement}
 use Rattle.word.proofs.read_be.Tie as tie
 
@@ -29,4 +30,4 @@ read-be-spec =
     (λ c κs. search needs)  -- join-requires-2
     (λ c. search needs)  -- mul-result
     (λ c. search needs)  -- add-result
-    (λ c. read-halves _ _ _ _ _ (omega arith) refl (refl, (refl, (refl, (refl, (refl, (refl, (refl, tt))))))) (c .before .before .before .before .before .join .ensures .0) (c .join2 .ensures .0)))  -- returns
+    (λ c. reads-by _ _ _ _ be (be-halves _ _ (c .before .before .before .before .before .join .ensures .0) (c .join2 .ensures .0)) (omega arith) refl (refl, (refl, (refl, (refl, (refl, (refl, (refl, tt)))))))))  -- returns

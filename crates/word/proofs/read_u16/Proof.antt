@@ -4,8 +4,9 @@ use mathlib.Core.List.{[], _∷_}
 use native.Mathlib.Omega.{arith}
 use borrow.Author.Needs.{needs}
 use borrow.Author.Tests.{not-true, not-false}
+use Rattle.word.specs.Num.{un}
 use Rattle.word.proofs.AtLaws.{fitted, unfitted, readAt-out}
-use Rattle.word.proofs.CodeLaws.{read-straight}
+use Rattle.word.proofs.CodeLaws.{reads-at}
 use Rattle.word.proofs.read_u16.Statement.{statement}
 use Rattle.word.proofs.read_u16.Tie as tie
 
@@ -23,4 +24,4 @@ read-u16-spec =
     (λ c. search needs)  -- mul-result
     (λ c. search needs)  -- add-result
     (λ c. search needs)  -- cast-result
-    (λ c. read-straight _ _ _ (c .wide2 .result ∷ []) (fitted _ _ _ (c .before .before .before .before .before .fits2 .ensures) (not-false _ (c .before .before .before .before .if1 .left))) (c .before .before .wide .ensures .0) (c .wide2 .ensures .0, tt)))  -- returns-2
+    (λ c. reads-at _ _ (c .before .before .wide .result) (c .wide2 .result ∷ []) (unfold un in omega arith) (fitted _ _ _ (c .before .before .before .before .before .fits2 .ensures) (not-false _ (c .before .before .before .before .if1 .left))) (c .before .before .wide .ensures .0) (c .wide2 .ensures .0, tt)))  -- returns-2

@@ -8,14 +8,7 @@ pub passes-spec : {M : Type 1} → statement M
 passes-spec =
     tie.close
     (tie.spec
-    (λ c. search needs)  -- enum-told
-    (λ c. search needs)  -- enum-told-2
-    (λ c κs. search needs)  -- goes-on-requires
-    (λ c. search needs)  -- enum-told-3
-    (λ c κs. search needs)  -- goes-on-requires-2
-    (λ c. search needs)  -- enum-told-4
-    (λ c. search needs)  -- returns
-    (λ c. pass-told _ (c .before .enum-told2 .given .1) (c .goes-on .ensures))  -- returns-2
-    (λ c. pass-told _ (c .before .enum-told3 .given .1) (c .goes-on2 .ensures))  -- returns-3
-    (λ c. search needs)  -- returns-4
+    (λ c κs. search needs)  -- bar-requires
+    (λ c κs. search needs)  -- rank-requires
+    (λ c. pass-told (c .before .before .args .turn) (c .before .before .args .order) (c .before .bar .ensures) (c .rank .ensures))  -- returns
     )

@@ -1,0 +1,24 @@
+-- What is left of a store when a separator and the child right of it are put in among the bytes of the node in a slot.
+-- Assumes nothing.
+use mathlib.Core.List.{List}
+use Prim.Native.Nat.{ℕ, _+_, _-_}
+use lib.Dec.{eqb}
+use Rattle.word.specs.Pick.{pick}
+use Rattle.word.specs.Part.{part, over}
+use Rattle.word.specs.At.{writeAt, clearAt}
+use Rattle.tree.specs.Map.{Sep}
+use Rattle.node.specs.Splice.{Spliced, spliceIn}
+use Rattle.slots.specs.Layout.{start}
+use Rattle.slots.specs.Mirror.{isSlot, lengthAt}
+use Rattle.slots.specs.Code.{nodeRoom}
+
+-- the bytes behind the length of the slot that begins at i, and, where there is a new length, that and zeros behind the node
+abbrev pub laid : List ℕ → ℕ → Spliced → List ℕ
+laid s i g =
+    pick (eqb (g .len) 0)
+    (over s (i + 4) (g .bytes))
+    (clearAt (writeAt 4 (over s (i + 4) (g .bytes)) i (g .len)) (i + 4 + g .len) (nodeRoom - g .len))
+
+-- the separator e and the child b at place p of the bytes of the node in slot x
+unfoldable pub insertedBytes : List ℕ → ℕ → ℕ → Sep ℕ → ℕ → List ℕ
+insertedBytes s x p e b = pick (isSlot s x) (laid s (start x) (spliceIn (part s (start x + 4) nodeRoom) (lengthAt s x) p e b)) s
