@@ -63,10 +63,10 @@ place-nine s x c l h =
     rw (lt-leb (length l) 8 (omega arith), e)
 
 module _ (s : List ℕ) (x i : ℕ) (child : Child) (c : ℕ) (q : List Step) (e : Sep ℕ) (fine : Writable c q) (full : length q ≡ 8) (there : i ≤ 8) (fit : Fit e) where
-  abbrev grown : List Step
+  abbrev pub grown : List Step
   grown = insertAt i (e, child .0) q
 
-  placed : placeM s (insertedAt i e (child .0) (record { slot = x; first = c; rest = q })) ≡ inTwo (record { slot = x; first = c; rest = grown }) (stepAt 4 grown) (drop 5 grown) (takeSlot s)
+  pub placed : placeM s (insertedAt i e (child .0) (record { slot = x; first = c; rest = q })) ≡ inTwo (record { slot = x; first = c; rest = grown }) (stepAt 4 grown) (drop 5 grown) (takeSlot s)
   unfolding inserted
   placed = place-nine s x c grown (length-more q i (e, child .0) (omega arith) ∙ omega arith)
 
@@ -76,16 +76,16 @@ module _ (s : List ℕ) (x i : ℕ) (child : Child) (c : ℕ) (q : List Step) (e
   fit-grown : child .0 < 2 ^ 64 → FitAll grown
   fit-grown small = fit-insert i (e, child .0) q fit small (fine .rest)
 
-  left-writable : child .0 < 2 ^ 64 → Writable c (take 4 grown)
+  pub left-writable : child .0 < 2 ^ 64 → Writable c (take 4 grown)
   left-writable small = record { first = fine .first; rest = fit-take 4 grown (fit-grown small); most = omega (arith, length-take 4 grown) }
 
-  fit-right : child .0 < 2 ^ 64 → FitAll (stepAt 4 grown ∷ drop 5 grown)
+  pub fit-right : child .0 < 2 ^ 64 → FitAll (stepAt 4 grown ∷ drop 5 grown)
   unfolding stepAt
   fit-right small =
       let l = length-more q i (e, child .0) (omega arith) in
       subst FitAll (drop-cons grown 4 (record { key = []; val = 0 }, 0) (omega arith)) (fit-drop 4 grown (fit-grown small))
 
-  right-writable : child .0 < 2 ^ 64 → Writable (stepAt 4 grown .1) (drop 5 grown)
+  pub right-writable : child .0 < 2 ^ 64 → Writable (stepAt 4 grown .1) (drop 5 grown)
   right-writable small =
       let l = length-more q i (e, child .0) (omega arith) in
       let f = fit-right small in

@@ -60,11 +60,6 @@ FitCame (M.split y b) = Fit y
 abbrev pub Makes : M.Ran → Outcome → List ℕ → Type 0
 Makes g r t = (r ≡ ofCame (g .out)) × (t ≡ g .store) × FitCame (g .out)
 
--- a separator was put in as the mirror puts it, or nothing is done
-abbrev pub PutOr : Bool → M.Ran → List ℕ → List ℕ → Type 0
-PutOr true g s t = Makes g (outcomeOf Plain) t
-PutOr false g s t = t ≡ s
-
 -- ---- a removal
 
 abbrev pub cameOf : R.Fell → code.Came

@@ -5,6 +5,7 @@ use crate::Outcome;
 use node::Child;
 use node::Index;
 use node::Node;
+use node::Places;
 use node::Separator;
 use node::Slot;
 use node::Value;
@@ -17,13 +18,15 @@ ghost use Rattle.tree.specs.Map.{Sep};
 ghost use Rattle.node.specs.Codec.{Step, Fit, Writable};
 ghost use Rattle.node.specs.Layout.{nodeOf};
 ghost use Rattle.node.specs.Edit.{separatorOf};
+ghost use Rattle.node.specs.Splice.{spliceAt};
 ghost use Rattle.slots.specs.Limits.{mostDepth};
 ghost use Rattle.slots.specs.Layout.{depthOf};
 ghost use Rattle.slots.specs.Code.{readNodeAt};
 ghost use Rattle.btree.specs.Mirror as M;
 ghost use Rattle.btree.specs.Mirror.{insertedAt, placeM, insertNodeM, setValueM, growM};
 ghost use Rattle.btree.specs.RunMirror.{startM, slotsNeededM};
-ghost use Rattle.btree.specs.Outcome.{ofCame, ofNeed, FitCame, Makes, PutOr};
+ghost use Rattle.btree.specs.Outcome.{ofCame, ofNeed, FitCame, Makes};
+ghost use Rattle.btree.specs.Short.{goesShort, EndWithin, SplitsShort};
 
 // ---- a separator taken in by the node above
 
@@ -55,52 +58,79 @@ fn split_node(
     }
 }
 
-// Where the bytes of the node in a slot are in standard form and take one more separator, it goes in among them, and no node is
-// read and written: whether it did.
-fn insert_short(
-    store: &mut [u8],
-    child: Child,
-    depth: u32,
-    i: Index,
-    sep: Separator,
-    right: Child,
-) -> bool
-    ensures { λ r. ⌜ ((e : Sep ℕ) → sep ≡ separatorOf e → Fit e → PutOr r (insertNodeM depth (now (store .entry)) (child .0) (i .0) e (right .0)) (now (store .entry)) (now (store .exit))) ⌝ }
+// ---- the same among the node's bytes, with no node read and written
+
+// Whether a separator with a key of so many bytes goes in among the bytes that the places were read from: they are in standard
+// form, have the index, and are a node of this depth.
+fn goes_short(places: Places, depth: u32, i: Index, len: usize) -> bool
+    ensures { λ r. ⌜ r ≡ goesShort places depth (i .0) len ⌝ }
 {
-    let places = slots::read_places(store, child);
     if !places.standard {
-        return false;
-    }
-    if 7 < places.count {
         return false;
     }
     if places.count < i.0 {
         return false;
     }
-    let children = places.children;
-    if !slots::fits_depth(children, places.count, depth) {
-        return false;
-    }
-    let len = sep.len;
     if 288 < len {
         return false;
     }
-    let slot = slots::slot_of(store, child);
-    let value = sep.value;
-    let key = sep.key;
-    if i.0 == 0 {
-        slots::insert_bytes(store, slot, 8, &key[0..len], value, right);
-        return true;
-    }
-    let before = i.0 - 1;
-    let place = places.starts[before] + places.lens[before] + 8;
-    slots::insert_bytes(store, slot, place, &key[0..len], value, right);
-    true
+    let children = places.children;
+    slots::fits_depth(children, places.count, depth)
 }
 
-// A separator and the child right of it at an index of the node in a slot, which is read anew: what was called below it has
-// written meanwhile.
-pub fn insert_node(
+// Where the separator at an index begins in the bytes that the places were read from.
+fn place_of(places: Places, i: Index) -> usize
+    requires { ⌜ (i .0 ≤ 8) × EndWithin places ⌝ }
+    ensures { λ r. ⌜ r ≡ spliceAt places (i .0) ⌝ }
+{
+    let starts = places.starts;
+    let lens = places.lens;
+    if i.0 == 0 {
+        return 8;
+    }
+    let before = i.0 - 1;
+    starts[before] + lens[before] + 8
+}
+
+// A full node with one separator more, put in at a place of its bytes, in two slots; bad where no second one is free. A reading
+// of the nine finds the first eight: the bytes are cut before and behind the fifth.
+fn split_short(
+    store: &mut [u8],
+    child: Child,
+    place: usize,
+    key: &[u8],
+    value: Value,
+    right: Child,
+) -> Outcome
+    ensures { λ r. ⌜ SplitsShort (now (store .entry)) (child .0) place (record { key = now (key .entry); val = value .0 }) (right .0) r (now (store .exit)) ⌝ }
+{
+    let mut nine = [0u8; 2816];
+    let old = slots::copy_bytes(store, child, &mut nine);
+    let len = node::splice(&mut nine, old, place, key, value, right);
+    let places = Places::read(&nine[0..len]);
+    let at = place_of(places, Index(4));
+    let start = places.starts[4];
+    let to = start + places.lens[4];
+    let between = places.values[4];
+    let middle = Separator::new(&nine[start..to], between);
+    let slot = slots::slot_of(store, child);
+    let free = slots::take_slot(store);
+    if free.0 == 0 {
+        return Outcome::of(Came::Bad);
+    }
+    slots::write_bytes(store, slot, &nine[0..at]);
+    slots::write_bytes(store, free, &nine[to..len]);
+    Outcome {
+        came: Came::Split,
+        right: free,
+        separator: middle,
+    }
+}
+
+// ---- a separator and the child right of it at an index of the node in a slot
+
+// The node is read anew: what was called below it has written meanwhile.
+fn insert_long(
     store: &mut [u8],
     child: Child,
     depth: u32,
@@ -110,9 +140,6 @@ pub fn insert_node(
 ) -> Outcome
     ensures { λ r. ⌜ ((e : Sep ℕ) → sep ≡ separatorOf e → Fit e → Makes (insertNodeM depth (now (store .entry)) (child .0) (i .0) e (right .0)) r (now (store .exit))) ⌝ }
 {
-    if insert_short(store, child, depth, i, sep, right) {
-        return Outcome::of(Came::Plain);
-    }
     let reading = slots::read_node_at(store, child, depth);
     let node = reading.node;
     let ending = reading.ending;
@@ -127,6 +154,33 @@ pub fn insert_node(
         return split_node(store, slot, node, i, sep, right);
     }
     slots::write_node(store, slot, node.insert_at(i, sep, right));
+    Outcome::of(Came::Plain)
+}
+
+// The same, among the node's bytes where they are in standard form.
+pub fn insert_node(
+    store: &mut [u8],
+    child: Child,
+    depth: u32,
+    i: Index,
+    sep: Separator,
+    right: Child,
+) -> Outcome
+    ensures { λ r. ⌜ ((e : Sep ℕ) → sep ≡ separatorOf e → Fit e → Makes (insertNodeM depth (now (store .entry)) (child .0) (i .0) e (right .0)) r (now (store .exit))) ⌝ }
+{
+    let places = slots::read_places(store, child);
+    let len = sep.len;
+    if !goes_short(places, depth, i, len) {
+        return insert_long(store, child, depth, i, sep, right);
+    }
+    let place = place_of(places, i);
+    let key = sep.key;
+    let value = sep.value;
+    if 7 < places.count {
+        return split_short(store, child, place, &key[0..len], value, right);
+    }
+    let slot = slots::slot_of(store, child);
+    slots::insert_bytes(store, slot, place, &key[0..len], value, right);
     Outcome::of(Came::Plain)
 }
 

@@ -11,4 +11,6 @@ pub mod Paragraph
 pub mod Theorems
 pub mod CodeLaws
 pub mod SpliceLaws
+pub mod BytesLaws
+pub mod NineLaws
 pub mod SearchLaws

@@ -39,10 +39,10 @@ length-spliced s p e b h =
     simp length-append (omega (arith, length-take-le p s h, length-sep e, length-le 8 b, length-drop p s))
 
 module _ (d : List ℕ) (n p : ℕ) (e : Sep ℕ) (b : ℕ) where
-  abbrev Keeps : Spliced → Type 0
+  abbrev pub Keeps : Spliced → Type 0
   Keeps g = (g .len ≤ length d) × (length (g .bytes) ≡ length d)
 
-  splice-keeps : Keeps (spliceIn d n p e b)
+  pub splice-keeps : Keeps (spliceIn d n p e b)
   unfolding spliceIn
   splice-keeps =
       by-test Keeps (ltb longestKey (length (e .key))) (λ h. (omega arith, refl)) λ h.
@@ -121,7 +121,7 @@ module _ (s : List ℕ) (x p : ℕ) (e : Sep ℕ) (b : ℕ) {f : Bool} (test : f
 -- ---- the longer node is written
 
 module _ (s : List ℕ) (x i : ℕ) (e : Sep ℕ) (b : ℕ) (small : Bytes s) (held : holdsNode s x ≡ true) (plain : placesIn s x .standard ≡ true) (within : i ≤ placesIn s x .count) (fit : Fit e) where
-  abbrev longer : List Step
+  abbrev pub longer : List Step
   longer = take i (restIn s x) ++ ((e, b) ∷ drop i (restIn s x))
 
   bytes-are : bytesIn s x ≡ nodeBytes s x
@@ -144,7 +144,7 @@ module _ (s : List ℕ) (x i : ℕ) (e : Sep ℕ) (b : ℕ) (small : Bytes s) (h
       record { slot = p .0; most = m; room = w; size = ap length bytes-are ∙ length-part s (start x + 4) (lengthAt s x) (omega arith) }
 
   -- the bytes are standard form of the chain that they are read as
-  standard-is : bytesIn s x ≡ encode (firstIn s x) (restIn s x)
+  pub standard-is : bytesIn s x ≡ encode (firstIn s x) (restIn s x)
   unfolding placesIn
   standard-is =
       let c : List ℕ = bytesIn s x in
@@ -152,17 +152,17 @@ module _ (s : List ℕ) (x i : ℕ) (e : Sep ℕ) (b : ℕ) (small : Bytes s) (h
       let g = scan-finds c (t .first) (t .rest) (t .fine .first) (t .fine .rest) (t .fine .most) (t .bytes) in
       t .bytes ∙ rw (g .first, g .rest)
 
-  abbrev place : ℕ
+  abbrev pub place : ℕ
   place = spliceAt (placesIn s x) i
 
-  place-is : place ≡ length (encode (firstIn s x) (take i (restIn s x)))
+  pub place-is : place ≡ length (encode (firstIn s x) (take i (restIn s x)))
   unfolding placesIn
   place-is = splice-place (bytesIn s x) i plain within
 
-  place-within : place ≤ lengthAt s x
+  pub place-within : place ≤ lengthAt s x
   place-within = omega (arith, place-is, splice-within (firstIn s x) (restIn s x) i, ap length standard-is, sits .size)
 
-  longer-is : spliced (bytesIn s x) place e b ≡ encode (firstIn s x) longer
+  pub longer-is : spliced (bytesIn s x) place e b ≡ encode (firstIn s x) longer
   longer-is = ap (λ (t : List ℕ). spliced t place e b) standard-is ∙ ap (λ (m : ℕ). spliced (encode (firstIn s x) (restIn s x)) m e b) place-is ∙ sym (splice-encode (firstIn s x) (restIn s x) i e b)
 
   longer-length : length (encode (firstIn s x) longer) ≡ lengthAt s x + spliceWidth e

@@ -1,10 +1,12 @@
--- What is left of a store when a separator and the child right of it are put in among the bytes of the node in a slot.
--- Assumes nothing.
+-- What is left of a store when a separator and the child right of it are put in among the bytes of the node in a slot, and
+-- when a node's bytes are written. Assumes nothing.
 use mathlib.Core.List.{List}
 use Prim.Native.Nat.{ℕ, _+_, _-_}
-use lib.Dec.{eqb}
+use lib.ListN.{length}
+use lib.Dec.{ltb, eqb}
 use Rattle.word.specs.Pick.{pick}
 use Rattle.word.specs.Part.{part, over}
+use Rattle.word.specs.Num.{zeros}
 use Rattle.word.specs.At.{writeAt, clearAt}
 use Rattle.tree.specs.Map.{Sep}
 use Rattle.node.specs.Splice.{Spliced, spliceIn}
@@ -22,3 +24,11 @@ laid s i g =
 -- the separator e and the child b at place p of the bytes of the node in slot x
 unfoldable pub insertedBytes : List ℕ → ℕ → ℕ → Sep ℕ → ℕ → List ℕ
 insertedBytes s x p e b = pick (isSlot s x) (laid s (start x) (spliceIn (part s (start x + 4) nodeRoom) (lengthAt s x) p e b)) s
+
+-- the length of a node's bytes, the bytes, zeros to the end of the slot; nothing where the slot doesn't take them
+unfoldable pub writtenBytes : List ℕ → ℕ → List ℕ → List ℕ
+writtenBytes s x b =
+    pick (isSlot s x)
+    (pick (ltb nodeRoom (length b)) s
+    (over (writeAt 4 (over s (start x + 4) b) (start x) (length b)) (start x + 4 + length b) (zeros (nodeRoom - length b))))
+    s

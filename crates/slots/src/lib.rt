@@ -2,11 +2,13 @@
 // is answered so and changes nothing.
 ghost use mathlib.Core.Path.{_≡_};
 ghost use Prim.Native.Nat.{_-_};
+ghost use lib.ListN.{length};
+ghost use Rattle.word.specs.At.{copyAt};
 ghost use Rattle.slots.specs.Layout.{start, rootOf, depthOf, countOf, firstOf, isStore};
 ghost use Rattle.slots.specs.Mirror.{isSlot, takeSlot, freeSlot, setRoot};
 ghost use Rattle.slots.specs.Code.{hasSize, slotOf, bytesIn, placesIn, readingIn, misfits, fitsDepth, readingAt, writtenIn, hasFree, linked, formatNumber, Formats};
 ghost use Rattle.slots.specs.Search.{SawAt};
-ghost use Rattle.slots.specs.Splice.{insertedBytes};
+ghost use Rattle.slots.specs.Splice.{insertedBytes, writtenBytes};
 use node::Child;
 use node::Node;
 use node::Places;
@@ -176,6 +178,16 @@ pub fn node_bytes(store: &[u8], child: Child) -> &[u8]
     &store[from..to]
 }
 
+// Those bytes at the front of a destination, where it takes them: how many they are.
+pub fn copy_bytes(store: &[u8], child: Child, dst: &mut [u8]) -> usize
+    ensures { λ r. ⌜ (r ≡ length (bytesIn (now (store .entry)) (child .0))) × (now (dst .exit) ≡ copyAt (now (dst .entry)) 0 (bytesIn (now (store .entry)) (child .0)) 0 (length (bytesIn (now (store .entry)) (child .0)))) ⌝ }
+{
+    let bytes = node_bytes(store, child);
+    let len = bytes.len();
+    word::copy(dst, 0, bytes, 0, len);
+    len
+}
+
 // That node's places; those of no bytes, which are refused, where there is none.
 pub fn read_places(store: &[u8], child: Child) -> Places
     ensures { λ r. ⌜ r ≡ placesIn (now (store .entry)) (child .0) ⌝ }
@@ -276,6 +288,24 @@ pub fn write_node(store: &mut [u8], slot: Slot, node: Node)
     if len == 0 {
         return;
     }
+    word::write_u32(store, at, len as u32);
+    word::clear(store, from + len, NODE_ROOM - len);
+}
+
+// The same of a node's bytes: nothing where there is no slot or they are too many.
+pub fn write_bytes(store: &mut [u8], slot: Slot, bytes: &[u8])
+    ensures { λ _. ⌜ now (store .exit) ≡ writtenBytes (now (store .entry)) (slot .0) (now (bytes .entry)) ⌝ }
+{
+    if !is_slot(store, slot.0 as u64) {
+        return;
+    }
+    let len = bytes.len();
+    if NODE_ROOM < len {
+        return;
+    }
+    let at = start_of(slot);
+    let from = at + 4;
+    word::copy(store, from, bytes, 0, len);
     word::write_u32(store, at, len as u32);
     word::clear(store, from + len, NODE_ROOM - len);
 }

@@ -1,34 +1,38 @@
 -- `btree::insert::insert_node` meets its contract. That the right child's number is below 2 ^ 64 is what owning it tells (`good`). Assumes nothing.
+use mathlib.Core.Path.{_≡_}
+use lib.ListN.{length}
 use Rattle.word.proofs.NumLaws.{bytes-of}
-use Rattle.btree.proofs.InsertCode.{insert-1, insert-2, insert-3, insert-4}
-use Rattle.btree.proofs.SpliceCode.{insert-short, insert-else}
+use Rattle.btree.proofs.SpliceCode.{short-len, short-place, insert-split, insert-put}
 use native.Mathlib.Omega.{arith}
 use borrow.Author.Needs.{needs}
 use Rattle.btree.proofs.insert.insert_node.Statement.{statement}
 use Rattle.btree.proofs.insert.insert_node.Tie as tie
 
+-- the length of the array, known where the function begins
+key-length : (s : tie.Start) → length (s .args .sep .key) ≡ 288
+key-length s = search needs
+
 pub insert-node-spec : {M : Type 1} → statement M
 insert-node-spec =
     tie.close
     (tie.spec
-    (λ c κs. search needs)  -- insert-short-requires
-    (λ c κs. search needs)  -- of-requires
+    (λ c κs. search needs)  -- read-places-requires
+    (λ c κs. search needs)  -- goes-short-requires
+    (λ c κs. search needs)  -- insert-long-requires
     (λ c. search needs)  -- same-length
-    (λ c. insert-short _ _ _ _ _ _ (c .before .before .before .before .insert-short .result) (c .before .before .before .before .insert-short .last .0) (c .before .before .before .before .insert-short .ensures) (c .before .if1 .taken) (c .of .ensures))  -- returns
-    (λ c κs. search needs)  -- read-node-at-requires
-    (λ c κs. search needs)  -- is-accepted-requires
-    (λ c κs. search needs)  -- of-requires-2
+    (λ c. (c .before .before .insert-long .ensures))  -- returns
+    (λ c κs. short-place _ _ _ _ (c .before .before .before .before .before .args .sep) (c .before .before .before .before .before .args .right) (c .before .before .read-places .ensures) (c .before .goes-short .ensures) (c .if1 .left))  -- place-of-requires
+    (λ c. search needs)  -- sub-split-short
+    (λ c. search needs)  -- part-split-short-start
+    (λ c. omega (arith, key-length (c .before .before .before .before .before .before .before .before .before .before .before .before), short-len _ _ _ _ (c .before .before .before .before .before .before .before .before .before .before .before .before .args .sep) (c .before .before .before .before .before .before .before .before .before .before .before .before .args .right) (c .before .before .before .before .before .before .before .before .before .read-places .ensures) (c .before .before .before .before .before .before .before .before .goes-short .ensures) (c .before .before .before .before .before .before .before .if1 .left)))  -- part-split-short-end
+    (λ c κs. search needs)  -- split-short-requires
     (λ c. search needs)  -- same-length-2
-    (λ c. insert-else _ _ _ _ _ _ (c .before .before .before .before .before .before .before .before .before .insert-short .result) (c .before .before .before .before .before .before .before .before .before .insert-short .last .0) (c .before .before .before .before .before .before .before .before .before .insert-short .ensures) (c .before .before .before .before .before .before .if1 .left) (insert-1 _ _ _ (c .before .before .before .before .read-node-at .ensures) (c .before .before .is-accepted .ensures) _ _ _ (c .before .if2 .taken) (c .of2 .ensures)))  -- returns-2
-    (λ c κs. search needs)  -- of-requires-3
-    (λ c. search needs)  -- same-length-3
-    (λ c. insert-else _ _ _ _ _ _ (c .before .before .before .before .before .before .before .before .before .before .before .before .insert-short .result) (c .before .before .before .before .before .before .before .before .before .before .before .before .insert-short .last .0) (c .before .before .before .before .before .before .before .before .before .before .before .before .insert-short .ensures) (c .before .before .before .before .before .before .before .before .before .if1 .left) (insert-2 _ _ _ (c .before .before .before .before .before .before .before .read-node-at .ensures) (c .before .before .before .before .before .is-accepted .ensures) _ _ _ (c .before .before .before .before .if2 .left) (c .before .if3 .taken) (c .of3 .ensures)))  -- returns-3
+    (λ c. insert-split _ _ _ _ (c .before .before .before .before .before .before .before .before .before .before .before .before .before .before .before .before .args .sep) (c .before .before .before .before .before .before .before .before .before .before .before .before .before .before .before .before .args .right) (c .before .before .before .before .before .before .before .before .before .before .before .before .before .read-places .ensures) (c .before .before .before .before .before .before .before .before .before .before .before .before .goes-short .ensures) (c .before .before .before .before .before .before .before .before .before .before .before .if1 .left) (c .before .before .before .before .before .before .before .before .before .before .place-of .ensures) (c .before .before .before .before .before .before .if2 .taken) (c .before .before .split-short .ensures))  -- returns-2
     (λ c κs. search needs)  -- slot-of-requires
-    (λ c κs. search needs)  -- split-node-requires
-    (λ c. omega (arith, (c .before .store2 .given), (c .before .before .before .before .before .before .before .before .before .before .before .before .before .before .before .before .before .before .store .given)))  -- same-length-4
-    (λ c. insert-else _ _ _ _ _ _ (c .before .before .before .before .before .before .before .before .before .before .before .before .before .before .before .before .before .before .before .insert-short .result) (c .before .before .before .before .before .before .before .before .before .before .before .before .before .before .before .before .before .before .before .insert-short .last .0) (c .before .before .before .before .before .before .before .before .before .before .before .before .before .before .before .before .before .before .before .insert-short .ensures) (c .before .before .before .before .before .before .before .before .before .before .before .before .before .before .before .before .if1 .left) (insert-3 _ _ _ (c .before .before .before .before .before .before .before .before .before .before .before .before .before .before .read-node-at .ensures) (c .before .before .before .before .before .before .before .before .before .before .before .before .is-accepted .ensures) _ _ _ (bytes-of (c .before .before .before .before .before .before .before .before .before .before .before .before .before .before .before .before .before .before .before .insert-short .last .0) (λ i h. omega (arith, (c .before .before .before .before .before .before .before .before .before .before .before .before .before .before .before .before .before .slice-known2 .given) i))) (c .before .before .before .before .before .before .before .before .before .before .before .if2 .left) (c .before .before .before .before .before .before .before .before .if3 .left) (c .before .before .before .before .before .before .slot-of .ensures) (c .before .before .before .before .if4 .taken) (c .before .before .split-node .ensures)))  -- returns-4
-    (λ c κs. search needs)  -- insert-at-requires
-    (λ c κs. search needs)  -- write-node-requires
-    (λ c κs. search needs)  -- of-requires-4
-    (λ c. omega (arith, (c .before .before .store3 .given), (c .before .before .before .before .before .before .before .before .before .before .before .before .before .before .before .before .before .before .before .before .store .given)))  -- same-length-5
-    (λ c. insert-else _ _ _ _ _ _ (c .before .before .before .before .before .before .before .before .before .before .before .before .before .before .before .before .before .before .before .before .before .insert-short .result) (c .before .before .before .before .before .before .before .before .before .before .before .before .before .before .before .before .before .before .before .before .before .insert-short .last .0) (c .before .before .before .before .before .before .before .before .before .before .before .before .before .before .before .before .before .before .before .before .before .insert-short .ensures) (c .before .before .before .before .before .before .before .before .before .before .before .before .before .before .before .before .before .before .if1 .left) (insert-4 _ _ _ (c .before .before .before .before .before .before .before .before .before .before .before .before .before .before .before .before .read-node-at .ensures) (c .before .before .before .before .before .before .before .before .before .before .before .before .before .before .is-accepted .ensures) _ _ _ (bytes-of (c .before .before .before .before .before .before .before .before .before .before .before .before .before .before .before .before .before .before .before .before .before .insert-short .last .0) (λ i h. omega (arith, (c .before .before .before .before .before .before .before .before .before .before .before .before .before .before .before .before .before .before .before .slice-known2 .given) i))) ((c .before .before .before .before .before .before .before .before .before .before .before .before .before .before .before .before .before .before .before .before .before .before .before .before .good) .1 .1 .1 .1 .1 .0 .1 .1 .0 .1) (c .before .before .before .before .before .before .before .before .before .before .before .before .before .if2 .left) (c .before .before .before .before .before .before .before .before .before .before .if3 .left) (c .before .before .before .before .before .before .before .before .slot-of .ensures) (c .before .before .before .before .before .before .if4 .left) (c .before .before .before .before .insert-at .ensures) (c .before .before .before .write-node .ensures) (c .of4 .ensures))))  -- returns-5
+    (λ c. search needs)  -- sub-insert-bytes
+    (λ c. search needs)  -- part-insert-bytes-start
+    (λ c. omega (arith, key-length (c .before .before .before .before .before .before .before .before .before .before .before .before .before .before), short-len _ _ _ _ (c .before .before .before .before .before .before .before .before .before .before .before .before .before .before .args .sep) (c .before .before .before .before .before .before .before .before .before .before .before .before .before .before .args .right) (c .before .before .before .before .before .before .before .before .before .before .before .read-places .ensures) (c .before .before .before .before .before .before .before .before .before .before .goes-short .ensures) (c .before .before .before .before .before .before .before .before .before .if1 .left)))  -- part-insert-bytes-end
+    (λ c κs. search needs)  -- insert-bytes-requires
+    (λ c κs. search needs)  -- of-requires
+    (λ c. search needs)  -- same-length-3
+    (λ c. insert-put _ _ _ _ (c .before .before .before .before .before .before .before .before .before .before .before .before .before .before .before .before .before .before .before .args .sep) (c .before .before .before .before .before .before .before .before .before .before .before .before .before .before .before .before .before .before .before .args .right) (c .before .before .before .before .before .before .before .before .before .before .before .before .before .before .before .before .read-places .ensures) (c .before .before .before .before .before .before .before .before .before .before .before .before .before .before .before .goes-short .ensures) (c .before .before .before .before .before .before .before .before .before .before .before .before .before .before .if1 .left) (c .before .before .before .before .before .before .before .before .before .before .before .before .before .place-of .ensures) (bytes-of (c .before .before .before .before .before .before .before .before .before .before .before .before .before .before .before .before .before .before .before .args .store .now) (λ i h. omega (arith, (c .before .before .before .before .before .before .before .before .before .before .before .before .before .before .before .before .before .before .slice-known .given) i))) ((c .before .before .before .before .before .before .before .before .before .before .before .before .before .before .before .before .before .before .before .good) .1 .1 .1 .1 .1 .0 .1 .1 .0 .1) (c .before .before .before .before .before .before .before .before .before .if2 .left) (c .before .before .before .before .before .before .before .slot-of .ensures) (c .before .before .before .insert-bytes .ensures) (c .of .ensures)))  -- returns-3
