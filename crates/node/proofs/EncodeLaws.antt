@@ -39,6 +39,11 @@ unfolding encodeRest
 length-rest [] = refl
 length-rest (x ∷ r) = let ih = length-rest r in simp (length-append, length-le, length-sep, ih)
 
+pub rest-append : (p q : List Step) → encodeRest (p ++ q) ≡ encodeRest p ++ encodeRest q
+unfolding encodeRest
+rest-append [] q = refl
+rest-append (x ∷ p) q = rw (rest-append p q) (simp append-assoc)
+
 pub length-encode : (c : ℕ) (r : List Step) → length (encode c r) ≡ 8 + restLength r
 unfolding encode
 length-encode c r = simp (length-append, length-le, length-rest)
@@ -64,11 +69,11 @@ sep-bound n e h = omega (arith, sep-most n)
 
 -- ---- what was written is found
 
-record HeadIs (s : List ℕ) (at : ℕ) (e : Sep ℕ) (h : Head) : Type 0 where
-  start : ℕ
-  is : h ≡ Separator (record { 0 = e .val }) start (length (e .key)) true
-  key : part s start (length (e .key)) ≡ e .key
-  next : start + length (e .key) ≡ at + length (encodeSep e)
+pub record HeadIs (s : List ℕ) (at : ℕ) (e : Sep ℕ) (h : Head) : Type 0 where
+  pub start : ℕ
+  pub is : h ≡ Separator (record { 0 = e .val }) start (length (e .key)) true
+  pub key : part s start (length (e .key)) ≡ e .key
+  pub next : start + length (e .key) ≡ at + length (encodeSep e)
 
 module _ (s : List ℕ) (at : ℕ) (e : Sep ℕ) (f : Fit e) where
   key-is : (start : ℕ) → start + length (e .key) ≤ length s → keyAt s (e .val) start (length (e .key)) true ≡ Separator (record { 0 = e .val }) start (length (e .key)) true
@@ -115,7 +120,7 @@ module _ (s : List ℕ) (at : ℕ) (e : Sep ℕ) (f : Fit e) where
         next = rw (pickF (n ∷ e .key) (255 ∷ (le 4 n ++ e .key)) (le-ltb n 255 h)) (simp length-append (omega arith));
       }
 
-  head-is : (p q : List ℕ) → length p ≡ at → s ≡ p ++ (encodeSep e ++ q) → HeadIs s at e (headAt s at)
+  pub head-is : (p q : List ℕ) → length p ≡ at → s ≡ p ++ (encodeSep e ++ q) → HeadIs s at e (headAt s at)
   unfolding encodeSep sized pick
   head-is p q l w = go (ltb (length (e .key)) 255) refl (w ∙ ap (λ (t : List ℕ). p ++ t) (append-assoc (le 8 (e .val)) (pick (ltb (length (e .key)) 255) (length (e .key) ∷ e .key) (255 ∷ (le 4 (length (e .key)) ++ e .key))) q))
     where

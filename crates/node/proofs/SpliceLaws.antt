@@ -1,41 +1,34 @@
 -- One more separator among node bytes: standard form of the longer chain, and where an index begins, by the lengths of the
 -- keys and by the place of the key before it. Assumes nothing.
-use mathlib.Core.Path.{_≡_, refl, sym, ap, subst, _∙_}
+use mathlib.Core.Path.{_≡_, refl, sym, ap, _∙_}
 use mathlib.Core.List.{List, [], _∷_, _++_, map, append-assoc}
 use mathlib.Core.Bool.{Bool, true, false, _&&_, not}
-use Prim.Native.Nat.{ℕ, zero, suc, _+_, _*_, _-_, _^_, _≤_, _<_}
+use Prim.Native.Nat.{ℕ, zero, suc, _+_, _-_, _≤_, _<_}
 use lib.ListN.{length, take, drop, getD, replicate, length-append, length-map, take-append-drop}
 use lib.Seq.{take-at, drop-at, take-append-le, take-take, length-take-le}
 use lib.Dec.{leb, ltb, eqb}
 use native.Mathlib.Omega.{arith}
 use borrow.Author.Tests.{ltb-true, leb-true, lt-ltb, le-ltb, not-true, not-false}
-use Rattle.word.specs.Pick.{pick, pickT, pickF, by-test}
+use Rattle.word.specs.Pick.{pickT, pickF, by-test}
 use Rattle.word.specs.Part.{part, over}
-use Rattle.word.specs.Num.{le, Bytes}
+use Rattle.word.specs.Num.{le}
 use Rattle.word.specs.At.{fitsIn, readAt, writeAt, moveAt}
 use Rattle.word.proofs.NumLaws.{length-le}
 use Rattle.word.proofs.PartLaws.{length-part, length-over, drop-take, over-beside}
 use Rattle.word.proofs.AtLaws.{fits-in, fits-true, writeAt-in}
 use Rattle.word.proofs.MoveLaws.{moveAt-in, over-ahead}
 use Rattle.tree.specs.Map.{Sep}
-use Rattle.node.specs.declared.Ending.{Ending}
-use Rattle.node.specs.declared.Ending.the-variants.{NoByteLeft, BytesIgnored, ShortChild}
 use Rattle.node.specs.declared.Head.{Head}
 use Rattle.node.specs.declared.Head.the-variants.{Separator, Ended}
-use Rattle.node.specs.Codec.{Step, longestKey, sepLength, restLength, encodeSep, encodeRest, encode, isAccepted, isNoByteLeft, Spot, Scan, stop, keyAt, sizeAt, headAt, follow, scanFrom, settle, scan, stepOf}
+use Rattle.node.specs.Codec.{Step, longestKey, sepLength, restLength, encodeSep, encodeRest, encode, isAccepted, isNoByteLeft, Spot, Scan, keyAt, sizeAt, headAt, follow, scanFrom, settle, scan, stepOf}
 use Rattle.node.specs.Layout.{padded, allPlain, layout, placesOf, placeIn, keyPlace}
 use Rattle.node.specs.Mirror.{widthAll, widthFirst, putSep}
 use Rattle.node.specs.Splice.{spliced, spliceAt, spliceWidth, Spliced, spliceIn}
-use Rattle.node.proofs.EncodeLaws.{length-sep, length-encode, sep-short, sep-long, sep-bound}
+use Rattle.node.proofs.EncodeLaws.{length-sep, rest-append, length-encode, sep-short, sep-long}
 use Rattle.node.proofs.ScanLaws.{AllLie, scan-lies}
 use Rattle.node.proofs.ReadLaws.{starts-at, lens-at}
 
 -- ---- the bytes
-
-rest-append : (p q : List Step) → encodeRest (p ++ q) ≡ encodeRest p ++ encodeRest q
-unfolding encodeRest
-rest-append [] q = refl
-rest-append (x ∷ p) q = rw (rest-append p q) (simp append-assoc)
 
 encode-append : (c : ℕ) (p q : List Step) → encode c (p ++ q) ≡ encode c p ++ encodeRest q
 unfolding encode

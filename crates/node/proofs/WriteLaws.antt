@@ -26,7 +26,7 @@ use Rattle.node.specs.declared.Written.the-variants.{Done, TooMany, Long
 use Rattle.node.specs.Codec.{Step, longestKey, sized, sepLength, restLength, encodeSep, encodeRest, encode}
 use Rattle.node.specs.Layout.{valueOf, childOf, stepsFrom, stepsOf, firstOf, anyOf, anyFirst, isLong, isNone, writtenOf, leftBy, writtenLength}
 use Rattle.node.specs.Mirror.{widthAll, widthFirst, measured, putSep}
-use Rattle.node.proofs.EncodeLaws.{length-sep, length-encode, sep-least, sep-most, sep-long}
+use Rattle.node.proofs.EncodeLaws.{length-sep, rest-append, length-encode, sep-least, sep-most, sep-long}
 use Rattle.node.proofs.Theorems.{none-long-at}
 
 -- ---- a loop along the first n of a list
@@ -218,11 +218,6 @@ module _ (n : Node) where
   -- the first i separators in standard form
   abbrev pub front : ℕ → List ℕ
   front i = encode (firstOf n) (stepsFrom n 0 i)
-
-  rest-append : (p q : List Step) → encodeRest (p ++ q) ≡ encodeRest p ++ encodeRest q
-  unfolding encodeRest
-  rest-append [] q = refl
-  rest-append (x ∷ p) q = rw (rest-append p q) (simp append-assoc)
 
   front-append : (i k : ℕ) → front (i + k) ≡ front i ++ encodeRest (stepsFrom n (0 + i) k)
   unfolding encode

@@ -2,28 +2,26 @@
 -- with one separator more can be read, and cut in two. Assumes nothing.
 use mathlib.Core.Path.{_≡_, refl, sym, ap, subst, _∙_}
 use mathlib.Core.List.{List, [], _∷_, _++_, map, append-assoc}
-use mathlib.Core.Bool.{Bool, true, false}
+use mathlib.Core.Bool.{true}
 use Prim.Native.Nat.{ℕ, zero, suc, _+_, _^_, _≤_, _<_}
 use lib.ListN.{length, take, drop, getD, length-append, take-append-drop}
-use lib.Seq.{getD-at, drop-cons}
-use lib.Dec.{ltb, eqb}
+use lib.Seq.{drop-cons}
+use lib.Dec.{eqb}
 use native.Mathlib.Omega.{arith}
-use borrow.Author.Tests.{ltb-true, ltb-false, eq-eqb, ne-eqb, lt-ltb, le-ltb, le-leb}
-use Rattle.word.specs.Pick.{pick, pickT, pickF, by-test}
+use borrow.Author.Tests.{eq-eqb, ne-eqb}
+use Rattle.word.specs.Pick.{pickT, pickF, by-test}
 use Rattle.word.specs.Part.{part}
 use Rattle.word.specs.Num.{le}
 use Rattle.word.specs.At.{readAt}
 use Rattle.word.proofs.NumLaws.{length-le}
-use Rattle.word.proofs.PartLaws.{part-seam}
 use Rattle.word.proofs.AtLaws.{fits-in}
 use Rattle.tree.specs.Map.{Sep}
-use Rattle.node.specs.declared.Head.the-variants.{Separator}
-use Rattle.node.specs.Codec.{Step, longestKey, sized, sepLength, restLength, encodeSep, encodeRest, encode, Fit, FitAll, isAccepted, Spot, Scan, before, keyAt, sizeAt, headAt, scanFrom, settle, scan}
+use Rattle.node.specs.Codec.{Step, sepLength, restLength, encodeSep, encodeRest, encode, FitAll, isAccepted, Spot, Scan, before, headAt, scanFrom, settle, scan}
 use Rattle.node.specs.Layout.{valueOf, layout, placesOf, placeIn, keyPlace}
 use Rattle.node.specs.Edit.{stepAt}
 use Rattle.node.specs.Splice.{spliceAt}
 use Rattle.node.proofs.ByteLaws.{read-seam}
-use Rattle.node.proofs.EncodeLaws.{length-sep, length-encode, sep-least}
+use Rattle.node.proofs.EncodeLaws.{length-sep, rest-append, length-encode, sep-least, HeadIs, head-is}
 use Rattle.node.proofs.LayoutLaws.{getD-padded}
 use Rattle.node.proofs.ReadLaws.{starts-at, lens-at}
 
@@ -34,63 +32,8 @@ record Lies (s : List ℕ) (at : ℕ) (e : Sep ℕ) (y : Spot) : Type 0 where
   key : part s (y .start) (length (e .key)) ≡ e .key
   to : y .start + length (e .key) ≡ at + length (encodeSep e)
 
-record HeadIs (s : List ℕ) (at : ℕ) (e : Sep ℕ) : Type 0 where
-  start : ℕ
-  is : headAt s at ≡ Separator (valueOf (e .val)) start (length (e .key)) true
-  lies : Lies s at e (record { value = e .val; start = start; len = length (e .key); plain = true })
-
-module _ (s : List ℕ) (at : ℕ) (e : Sep ℕ) (f : Fit e) (p q : List ℕ) (l : length p ≡ at) where
-  key-is : (start : ℕ) → start + length (e .key) ≤ length s → keyAt s (e .val) start (length (e .key)) true ≡ Separator (valueOf (e .val)) start (length (e .key)) true
-  unfolding keyAt
-  key-is start w =
-      let t = f .there in
-      pickT _ _ (fits-in (length s) start (length (e .key)) w) ∙ pickF _ _ (ne-eqb (e .val) 0 (omega arith)) ∙ pickF _ _ (le-ltb longestKey (length (e .key)) (f .short))
-
-  short-is : length (e .key) < 255 → s ≡ p ++ (le 8 (e .val) ++ ((length (e .key) ∷ e .key) ++ q)) → HeadIs s at e
-  unfolding headAt sizeAt encodeSep sized
-  short-is h w =
-      let n : ℕ = length (e .key) in
-      let v : List ℕ = le 8 (e .val) in
-      let lv = length-le 8 (e .val) in
-      let big : length s ≡ at + (8 + suc (n + length q)) = ap length w ∙ simp (length-append, length-le) (omega arith) in
-      let value : readAt 8 s at ≡ e .val = ap (λ (t : List ℕ). readAt 8 t at) w ∙ read-seam 8 p ((n ∷ e .key) ++ q) (e .val) at l (f .small) in
-      let head : getD s (at + 8) 0 ≡ n = ap (λ (t : List ℕ). getD t (at + 8) 0) (w ∙ sym (append-assoc p v ((n ∷ e .key) ++ q))) ∙ getD-at (p ++ v) n (e .key ++ q) 0 (at + 8) (simp length-append (omega arith)) in
-      let key : part s (at + 9) n ≡ e .key = ap (λ (t : List ℕ). part t (at + 9) n) (w ∙ simp append-assoc) ∙ part-seam (p ++ (v ++ (n ∷ []))) (e .key) q (at + 9) n (simp length-append (omega arith)) refl in
-      let to : at + 9 + n ≡ at + length (encodeSep e) = rw (pickT (n ∷ e .key) (255 ∷ (le 4 n ++ e .key)) (lt-ltb n 255 h)) (simp length-append (omega arith)) in
-      record {
-        start = at + 9;
-        is = pickT _ _ (fits-in (length s) at 9 (omega arith)) ∙ rw (value, head) (pickT _ _ (lt-ltb n 255 h) ∙ key-is (at + 9) (omega arith));
-        lies = record { value = refl; len = refl; key = key; to = to };
-      }
-
-  long-is : 255 ≤ length (e .key) → s ≡ p ++ (le 8 (e .val) ++ ((255 ∷ (le 4 (length (e .key)) ++ e .key)) ++ q)) → HeadIs s at e
-  unfolding headAt sizeAt encodeSep sized
-  long-is h w =
-      let n : ℕ = length (e .key) in
-      let v : List ℕ = le 8 (e .val) in
-      let m : List ℕ = le 4 n in
-      let lv = length-le 8 (e .val) in
-      let lm = length-le 4 n in
-      let short = f .short in
-      let big : length s ≡ at + (8 + suc (4 + (n + length q))) = ap length w ∙ simp (length-append, length-le) (omega arith) in
-      let value : readAt 8 s at ≡ e .val = ap (λ (t : List ℕ). readAt 8 t at) w ∙ read-seam 8 p ((255 ∷ (m ++ e .key)) ++ q) (e .val) at l (f .small) in
-      let head : getD s (at + 8) 0 ≡ 255 = ap (λ (t : List ℕ). getD t (at + 8) 0) (w ∙ sym (append-assoc p v ((255 ∷ (m ++ e .key)) ++ q))) ∙ getD-at (p ++ v) 255 ((m ++ e .key) ++ q) 0 (at + 8) (simp length-append (omega arith)) in
-      let size : readAt 4 s (at + 9) ≡ n = ap (λ (t : List ℕ). readAt 4 t (at + 9)) (w ∙ simp append-assoc) ∙ read-seam 4 (p ++ (v ++ (255 ∷ []))) (e .key ++ q) n (at + 9) (simp length-append (omega arith)) (omega arith) in
-      let key : part s (at + 13) n ≡ e .key = ap (λ (t : List ℕ). part t (at + 13) n) (w ∙ simp append-assoc) ∙ part-seam (p ++ (v ++ (255 ∷ m))) (e .key) q (at + 13) n (simp length-append (omega arith)) refl in
-      let to : at + 13 + n ≡ at + length (encodeSep e) = rw (pickF (n ∷ e .key) (255 ∷ (le 4 n ++ e .key)) (le-ltb n 255 h)) (simp length-append (omega arith)) in
-      record {
-        start = at + 13;
-        is = pickT _ _ (fits-in (length s) at 9 (omega arith)) ∙ rw (value, head, size, le-leb 255 n h) (pickF _ _ refl ∙ pickT _ _ (fits-in (length s) (at + 9) 4 (omega arith)) ∙ key-is (at + 13) (omega arith));
-        lies = record { value = refl; len = refl; key = key; to = to };
-      }
-
-  head-is : s ≡ p ++ (encodeSep e ++ q) → HeadIs s at e
-  unfolding encodeSep sized pick
-  head-is w = go (ltb (length (e .key)) 255) refl (w ∙ ap (λ (t : List ℕ). p ++ t) (append-assoc (le 8 (e .val)) (pick (ltb (length (e .key)) 255) (length (e .key) ∷ e .key) (255 ∷ (le 4 (length (e .key)) ++ e .key))) q))
-    where
-      go : (b : Bool) → ltb (length (e .key)) 255 ≡ b → s ≡ p ++ (le 8 (e .val) ++ (pick b (length (e .key) ∷ e .key) (255 ∷ (le 4 (length (e .key)) ++ e .key)) ++ q)) → HeadIs s at e
-      go true c w = short-is (ltb-true (length (e .key)) 255 c) w
-      go false c w = long-is (ltb-false (length (e .key)) 255 c) w
+head-lies : (s : List ℕ) (at : ℕ) (e : Sep ℕ) (h : HeadIs s at e (headAt s at)) → Lies s at e (record { value = e .val; start = h .start; len = length (e .key); plain = true })
+head-lies s at e h = record { value = refl; len = refl; key = h .key; to = h .next }
 
 -- ---- a scan
 
@@ -115,16 +58,16 @@ module _ (s : List ℕ) where
       subst (Reads s at 0 q) (sym (pickT _ _ (fits-in (length s) at 8 h)))
       (by-test (Reads s at 0 q) (eqb (at + 8) (length s)) (λ e. record { fine = refl; spots = λ j a b. absurd (omega arith) }) (λ e. record { fine = refl; spots = λ j a b. absurd (omega arith) }))
 
-  module _ (c at k : ℕ) (x : Step) (r : List Step) (h : HeadIs s (at + 8) (x .0)) (g : Scan) (ih : Reads s (h .start + length (x .0 .key)) k r g) where
+  module _ (c at k : ℕ) (x : Step) (r : List Step) (h : HeadIs s (at + 8) (x .0) (headAt s (at + 8))) (g : Scan) (ih : Reads s (h .start + length (x .0 .key)) k r g) where
     abbrev spot : Spot
     spot = record { value = x .0 .val; start = h .start; len = length (x .0 .key); plain = true }
 
     next-spots : (j : ℕ) → j < suc k → j < length (x ∷ r) → Lies s (at + length (encode 0 (take j (x ∷ r)))) (stepAt j (x ∷ r) .0) (spotIn (before c spot g .rest) j)
     unfolding stepAt
-    next-spots zero a b = subst (λ (n : ℕ). Lies s (at + n) (x .0) spot) (sym (length-encode 0 [])) (h .lies)
+    next-spots zero a b = subst (λ (n : ℕ). Lies s (at + n) (x .0) spot) (sym (length-encode 0 [])) (head-lies s (at + 8) (x .0) h)
     next-spots (suc j) a b =
         let e : h .start + length (x .0 .key) + length (encode 0 (take j r)) ≡ at + length (encode 0 (x ∷ take j r)) =
-        omega (arith, h .lies .to, length-sep (x .0), length-encode 0 (take j r), length-encode 0 (x ∷ take j r)) in
+        omega (arith, h .next, length-sep (x .0), length-encode 0 (take j r), length-encode 0 (x ∷ take j r)) in
         subst (λ (n : ℕ). Lies s n (getD r j (record { key = []; val = 0 }, 0) .0) (spotIn (g .rest) j)) e (ih .spots j (omega arith) (omega arith))
 
   reads : (k : ℕ) (p : List ℕ) (c : ℕ) (q : List Step) (at : ℕ) → c < 2 ^ 64 → FitAll q → length p ≡ at → s ≡ p ++ encode c q → Reads s at k q (scanFrom s k at)
@@ -143,7 +86,7 @@ module _ (s : List ℕ) where
       let value : readAt 8 s at ≡ c = ap (λ (t : List ℕ). readAt 8 t at) w ∙ read-seam 8 p (encodeSep (x .0) ++ q) c at l hc in
       let h = head-is s (at + 8) (x .0) (f .0) (p ++ le 8 c) q (simp (length-append, length-le) (omega arith)) (w ∙ sym (append-assoc p (le 8 c) (encodeSep (x .0) ++ q))) in
       let to : ℕ = h .start + length (x .0 .key) in
-      let ih = reads k (p ++ (le 8 c ++ encodeSep (x .0))) (x .1) r to (f .1) (f .2) (omega (arith, h .lies .to, length-append p (le 8 c ++ encodeSep (x .0)), length-append (le 8 c) (encodeSep (x .0)), length-le 8 c)) (w ∙ simp append-assoc) in
+      let ih = reads k (p ++ (le 8 c ++ encodeSep (x .0))) (x .1) r to (f .1) (f .2) (omega (arith, h .next, length-append p (le 8 c ++ encodeSep (x .0)), length-append (le 8 c) (encodeSep (x .0)), length-le 8 c)) (w ∙ simp append-assoc) in
       let y : Spot = record { value = x .0 .val; start = h .start; len = length (x .0 .key); plain = true } in
       let is : scanFrom s (suc k) at ≡ before c y (scanFrom s k to) =
       pickT _ _ (fits-in (length s) at 8 (omega arith)) ∙ pickF _ _ (ne-eqb (at + 8) (length s) (λ z. omega arith)) ∙ rw (value, h .is) in
@@ -165,11 +108,6 @@ value-in : (r : List (Spot × ℕ)) (j : ℕ) → getD (map (λ (y : Spot × ℕ
 value-in [] j = refl
 value-in (y ∷ r) zero = refl
 value-in (y ∷ r) (suc j) = value-in r j
-
-rest-append : (p q : List Step) → encodeRest (p ++ q) ≡ encodeRest p ++ encodeRest q
-unfolding encodeRest
-rest-append [] q = refl
-rest-append (x ∷ p) q = rw (rest-append p q) (simp append-assoc)
 
 -- the bytes before a separator, its own, and those of the chain behind it
 pub cut-encode : (c : ℕ) (q : List Step) (j : ℕ) → j < length q → encode c q ≡ encode c (take j q) ++ (encodeSep (stepAt j q .0) ++ encode (stepAt j q .1) (drop (suc j) q))

@@ -1,29 +1,27 @@
 -- A separator put in among the bytes of the node in a slot: each way through `insert_bytes`, and that it writes the longer
 -- node where the bytes are in standard form. Assumes nothing.
-use mathlib.Core.Path.{_≡_, refl, sym, ap, subst, _∙_}
-use mathlib.Core.List.{List, [], _∷_, _++_, map}
-use mathlib.Core.Bool.{Bool, true, false, cond, _&&_, not}
-use Prim.Native.Nat.{ℕ, zero, suc, _+_, _*_, _-_, _^_, _≤_, _<_}
+use mathlib.Core.Path.{_≡_, refl, sym, ap, _∙_}
+use mathlib.Core.List.{List, _∷_, _++_}
+use mathlib.Core.Bool.{Bool, true, false, _&&_, not}
+use Prim.Native.Nat.{ℕ, _+_, _-_, _≤_}
 use lib.ListN.{length, take, drop, length-append, length-drop}
 use lib.Seq.{take-take, length-take-le}
 use lib.Dec.{leb, ltb, eqb}
 use native.Mathlib.Omega.{arith}
 use borrow.Author.Tests.{not-true, not-false, leb-true, ltb-false, le-ltb, eq-eqb, ne-eqb}
-use Rattle.word.specs.Pick.{pick, pickT, pickF, by-test}
+use Rattle.word.specs.Pick.{pickT, pickF, by-test}
 use Rattle.word.specs.Part.{part, over}
-use Rattle.word.specs.Num.{le, zeros, Bytes}
+use Rattle.word.specs.Num.{Bytes}
 use Rattle.word.specs.At.{fitsIn, readAt, writeAt, clearAt}
 use Rattle.word.proofs.NumLaws.{length-le}
 use Rattle.word.proofs.PartLaws.{length-part, length-over, over-in}
 use Rattle.word.proofs.AtLaws.{fits-in, fits-true, length-writeAt, clearAt-in}
 use Rattle.tree.specs.Map.{Sep}
-use Rattle.tree.specs.Tree.{Node}
-use Rattle.node.specs.Codec.{Step, longestKey, encodeSep, encode, Fit, Writable, scan, stepOf}
-use Rattle.node.specs.Layout.{placesOf}
+use Rattle.node.specs.Codec.{Step, longestKey, encode, Fit, Writable}
 use Rattle.node.specs.Splice.{spliced, spliceAt, spliceWidth, Spliced, spliceIn}
 use Rattle.node.proofs.EncodeLaws.{length-sep, scan-finds}
 use Rattle.node.proofs.Theorems.{standard-most, flagged-standard}
-use Rattle.node.proofs.SpliceLaws.{splice-encode, splice-within, splice-place, frontOf}
+use Rattle.node.proofs.SpliceLaws.{splice-encode, splice-within, splice-place}
 use Rattle.slots.specs.Limits.{slotSize, leastNode, mostNode}
 use Rattle.slots.specs.Layout.{start}
 use Rattle.slots.specs.Mirror.{isSlot, lengthAt, nodeBytes, holdsNode, writeNode}

@@ -1,14 +1,13 @@
 -- Bytes moved up within a list, the last first: in range and out of it, and the loop. Assumes nothing.
-use mathlib.Core.Path.{_≡_, refl, sym, ap, _∙_}
+use mathlib.Core.Path.{_≡_, sym, ap, _∙_}
 use mathlib.Core.List.{List, [], _∷_, _++_, append-assoc}
-use mathlib.Core.Bool.{Bool, true, false, not}
-use Prim.Native.Nat.{ℕ, zero, suc, _+_, _-_, _≤_, _<_}
+use Prim.Native.Nat.{ℕ, _+_, _-_, _≤_, _<_}
 use lib.ListN.{length, getD, set, take, drop, length-append}
 use lib.Seq.{take-add, drop-cons, length-take-le}
 use native.Mathlib.Omega.{arith}
 use Rattle.word.specs.Pick.{pickT, pickF}
 use Rattle.word.specs.Part.{part, over}
-use Rattle.word.specs.At.{fitsIn, moveAt}
+use Rattle.word.specs.At.{moveAt}
 use Rattle.word.proofs.PartLaws.{length-part, length-over, part-before, part-add, part-none, over-none, over-seam, set-over}
 use Rattle.word.proofs.AtLaws.{fits-in, fits-out}
 
