@@ -114,7 +114,7 @@ fn insert(store: &mut [u8], child: Child, depth: u32, key: &[u8], value: Value) 
             Child(0),
         );
     }
-    let below = insert(store, sight.child, depth - 1, key, value);
+    let below = change(store, sight.child, depth - 1, true, key, value);
     let came = below.came;
     if came.is_plain() {
         return below;
@@ -135,7 +135,7 @@ fn on_existing(store: &mut [u8], child: Child, depth: u32, key: &[u8]) -> Outcom
         if depth == 0 {
             return Outcome::of(Came::Plain);
         }
-        let below = on_existing(store, sight.child, depth - 1, key);
+        let below = change(store, sight.child, depth - 1, false, key, Value(0));
         let came = below.came;
         if came.is_plain() {
             return below;
