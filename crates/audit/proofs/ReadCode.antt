@@ -18,13 +18,14 @@ use Rattle.word.proofs.NumLaws.{length-zeros, le-un, bytes-part}
 use Rattle.word.proofs.AtLaws.{readAt-in, zeroAt-is, zeroAt-true}
 use Rattle.tree.specs.Tree.{Node}
 use Rattle.tree.proofs.Cases.{by-bool, by-cond}
-use Rattle.node.specs.declared.Ending.{Ending}
-use Rattle.node.specs.Codec.{Spot, Scan, encode, scan, stepOf, isAccepted, isNoByteLeft}
-use Rattle.node.specs.Layout.{padded, valueOf, childOf, layout, placesOf, readingOf, allPlain}
-use Rattle.node.proofs.ScanLaws.{refused-not-whole, AllLie, scan-lies, scan-sound}
-use Rattle.node.proofs.LayoutLaws.{getD-padded, getD-mapped, length-padded}
-use Rattle.node.proofs.ReadLaws.{places-few, ends-within}
-use Rattle.node.proofs.Theorems.{standard-flagged}
+use Rattle.codec.specs.declared.Ending.{Ending}
+use Rattle.codec.specs.Codec.{Spot, Scan, encode, scan, stepOf, isAccepted, isNoByteLeft}
+use Rattle.node.specs.Chain.{padded, valueOf, childOf}
+use Rattle.codec.specs.Layout.{layout, placesOf, readingOf, allPlain}
+use Rattle.codec.proofs.ScanLaws.{refused-not-whole, AllLie, scan-lies, scan-sound}
+use Rattle.node.proofs.ChainLaws.{getD-padded, getD-mapped, length-padded}
+use Rattle.codec.proofs.ReadLaws.{places-few, ends-within}
+use Rattle.codec.proofs.Theorems.{standard-flagged}
 use Rattle.slots.specs.Limits.{leastNode, mostNode, slotSize}
 use Rattle.slots.specs.Layout.{start, slotAt, used}
 use Rattle.slots.specs.Mirror.{isSlot, lengthAt, nodeBytes, holdsNode}

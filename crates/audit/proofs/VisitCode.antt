@@ -14,9 +14,8 @@ use Rattle.word.specs.Key.{Key}
 use Rattle.word.specs.Num.{Bytes}
 use Rattle.word.proofs.AtLaws.{fits-in}
 use Rattle.tree.proofs.Cases.{by-bool}
-use Rattle.node.specs.declared.Places.{Places}
-use Rattle.node.specs.Codec.{Step}
-use Rattle.node.specs.Layout.{childOf}
+use Rattle.codec.specs.declared.Places.{Places}
+use Rattle.node.specs.Chain.{Step, childOf}
 use Rattle.slots.specs.Layout.{start, countOf}
 use Rattle.slots.specs.Code.{slotOf, placesIn, firstIn, restIn, nodeIn}
 use Rattle.audit.specs.declared.Last.{Last}

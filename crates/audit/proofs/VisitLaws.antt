@@ -18,11 +18,11 @@ use Rattle.tree.specs.Free.{occurs}
 use Rattle.tree.specs.State.{AllRight, Fits, Shaped}
 use Rattle.tree.proofs.Cases.{by-cond, is-lt}
 use Rattle.tree.proofs.Slots.{occurs-append, inStore-le}
-use Rattle.node.specs.Codec.{Step}
+use Rattle.node.specs.Chain.{Step}
 use Rattle.slots.specs.Layout.{slotAt, used, countOf}
 use Rattle.slots.specs.Mirror.{isSlot, holdsNode, lengthAt, nodeBytes, readOf, readNode}
 use Rattle.slots.specs.Limits.{leastNode, mostNode}
-use Rattle.node.specs.Codec.{decode}
+use Rattle.codec.specs.Codec.{decode}
 use Rattle.slots.specs.Entries.{asWritten}
 use Rattle.slots.specs.Stands.{label, mapRight, mapNode, InSlot, Holds, Based}
 use Rattle.slots.proofs.HeaderLaws.{and-both}

@@ -13,7 +13,7 @@ use Rattle.tree.specs.Tree.{Node}
 use Rattle.tree.specs.Free.{occurs}
 use Rattle.tree.specs.State.{rootLeast}
 use Rattle.tree.proofs.Cases.{by-cond, by-bool}
-use Rattle.node.specs.Codec.{Step}
+use Rattle.node.specs.Chain.{Step}
 use Rattle.slots.specs.Limits.{mostDepth}
 use Rattle.slots.specs.Layout.{slotAt, idle, rootOf, depthOf, countOf, firstOf}
 use Rattle.slots.specs.Mirror.{isSlot}

@@ -12,9 +12,8 @@ use Rattle.word.specs.Num.{zeros}
 use Rattle.word.specs.At.{fitsIn, zeroAt}
 use Rattle.word.specs.declared.Order.{Order}
 use Rattle.word.specs.declared.Order.the-variants.{Less, Equal, Greater}
-use Rattle.node.specs.declared.Places.{Places}
-use Rattle.node.specs.Codec.{Step}
-use Rattle.node.specs.Layout.{valueOf, childOf}
+use Rattle.codec.specs.declared.Places.{Places}
+use Rattle.node.specs.Chain.{Step, valueOf, childOf}
 use Rattle.slots.specs.Layout.{start, countOf, firstOf, isStore}
 use Rattle.slots.specs.Mirror.{lengthAt}
 use Rattle.slots.specs.Code.{nodeRoom}

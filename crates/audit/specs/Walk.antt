@@ -11,7 +11,7 @@ use Rattle.word.specs.At.{readAt}
 use Rattle.tree.specs.Tree.{Node}
 use Rattle.tree.specs.Free.{occurs}
 use Rattle.tree.specs.State.{rootLeast}
-use Rattle.node.specs.Codec.{Step}
+use Rattle.node.specs.Chain.{Step}
 use Rattle.slots.specs.Limits.{mostDepth}
 use Rattle.slots.specs.Layout.{start, slotAt, idle, rootOf, depthOf, countOf, firstOf}
 use Rattle.slots.specs.Mirror.{isSlot, readNode}

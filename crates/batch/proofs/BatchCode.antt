@@ -26,8 +26,8 @@ use Rattle.changes.proofs.FineLaws.{fine-records}
 use Rattle.btree.specs.declared.records.Acted.{Acted}
 use Rattle.btree.specs.declared.records.Acted.the-variants as acted
 use Rattle.btree.specs.declared.records.Ended as code
-use Rattle.btree.specs.RunMirror as M
-use Rattle.btree.specs.RunMirror.{Ended, startM, runAllM}
+use Rattle.outcome.specs.RunMirror as M
+use Rattle.outcome.specs.RunMirror.{Ended, startM, runAllM}
 use Rattle.btree.specs.RunCode.{actedOf, Ends}
 use Rattle.btree.proofs.Runs.{FitOp, FitRecs, endOf, EndedAs, batchM}
 use Rattle.btree.proofs.Corollaries.{batch-ends}

@@ -34,7 +34,7 @@ use Rattle.changes.specs.declared.Checked as changes
 use Rattle.changes.specs.declared.Checked.the-variants as checked
 use Rattle.changes.specs.Records.{checkedNumber, checkOf, recordsOf}
 use Rattle.changes.proofs.FineLaws.{fine-records}
-use Rattle.btree.specs.RunMirror as M
+use Rattle.outcome.specs.RunMirror as M
 use Rattle.btree.proofs.Runs.{FitRecs, endOf, batchM}
 use Rattle.btree.proofs.Corollaries as btree
 use Rattle.btree.proofs.Corollaries.{batch-ends, batch-audited}

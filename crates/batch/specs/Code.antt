@@ -2,8 +2,8 @@
 use Prim.Native.Nat.{ℕ}
 use Rattle.changes.specs.declared.Checked as changes
 use Rattle.changes.specs.declared.Checked.the-variants as checked
-use Rattle.btree.specs.RunMirror as M
-use Rattle.btree.specs.RunMirror.{Ended}
+use Rattle.outcome.specs.RunMirror as M
+use Rattle.outcome.specs.RunMirror.{Ended}
 use Rattle.batch.specs.declared.Answer.{Answer}
 use Rattle.batch.specs.declared.Answer.the-variants.{Done, Short, LongKey, BadValue, Falls, TooMany, Fails, NoRoom}
 use Rattle.batch.specs.declared.Batched.{Batched}

@@ -3,7 +3,7 @@ ghost use mathlib.Core.Path.{_≡_};
 ghost use Rattle.tree.specs.Batch.{runsOf};
 ghost use Rattle.changes.specs.declared.Checked.the-variants.{Fine};
 ghost use Rattle.changes.specs.Records.{checkOf, recordsOf};
-ghost use Rattle.btree.specs.RunMirror.{startM, runAllM};
+ghost use Rattle.outcome.specs.RunMirror.{startM, runAllM};
 ghost use Rattle.batch.specs.Contract.{answerNumber, Batches};
 ghost use Rattle.batch.specs.Code.{refusedWith, ofChecked, batchedOf};
 use btree::records::Acted;
@@ -78,7 +78,7 @@ fn of_checked(checked: Checked) -> Answer
 fn run_batch(store: &mut [u8], records: &[u8]) -> Batched
     ensures { λ r. ⌜ (checkOf (now (records .entry)) ≡ Fine → (r ≡ batchedOf (runAllM (runsOf (recordsOf (now (records .entry)))) (startM (now (store .entry))))) × (now (store .exit) ≡ runAllM (runsOf (recordsOf (now (records .entry)))) (startM (now (store .entry))) .store)) ⌝ }
 {
-    btree::insert::start(store);
+    insertion::start(store);
     let ended = btree::records::run_all(store, records);
     let applied = ended.applied;
     let acted = ended.acted;

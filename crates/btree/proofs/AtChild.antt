@@ -19,7 +19,7 @@ use Rattle.slots.specs.Stands.{label, mapRight, mapNode, InSlot, Holds, Based}
 use Rattle.slots.proofs.StoreLaws.{based-slot, read-back}
 use Rattle.slots.proofs.Framing.{occurs-itself, Within, first-within, left-frame, right-frame, holds-frame, length-mapRight}
 use Rattle.word.specs.Pick.{pickT}
-use Rattle.node.specs.Layout.{childOf}
+use Rattle.node.specs.Chain.{childOf}
 use Rattle.slots.specs.Code.{misfits, whenFit, readNodeAt}
 use Rattle.slots.proofs.CodeLaws.{RestFits, chain-fits}
 use Rattle.btree.proofs.Natural.{mapLeft, plug-map, FitZip, FitNode, fit-plug}

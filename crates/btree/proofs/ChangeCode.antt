@@ -1,5 +1,5 @@
 -- Each way through the functions of `change` (a law NAME-k is of the k-th return): what they answer and leave is what the mirrors
--- of specs/Mirror and specs/RemoveMirror say. Assumes nothing.
+-- (Mirror and RemoveMirror of `outcome`) say. Assumes nothing.
 use mathlib.Core.Path.{_≡_, refl, sym, ap, subst, _∙_}
 use mathlib.Core.List.{List, [], _∷_}
 use mathlib.Core.Bool.{Bool, true, false, cond, not}
@@ -15,21 +15,21 @@ use Rattle.tree.specs.Map.{Sep}
 use Rattle.tree.specs.Tree.{Node, Zip, at, below, always, plug}
 use Rattle.tree.proofs.Zipper.{seek-plug}
 use Rattle.node.specs.declared.Separator.{Separator}
-use Rattle.node.specs.Codec.{Step, longestKey, Fit}
+use Rattle.node.specs.Chain.{Step, longestKey, Fit}
 use Rattle.node.specs.Edit.{separatorOf}
 use Rattle.slots.specs.Code.{firstIn, restIn, nodeIn, readNodeAt}
-use Rattle.node.specs.declared.search.Turn.the-variants as turn
-use Rattle.node.specs.declared.search.Sight.{Sight}
+use Rattle.search.specs.declared.Turn.the-variants as turn
+use Rattle.search.specs.declared.Sight.{Sight}
 use Rattle.slots.specs.Search.{SawAt}
-use Rattle.btree.specs.declared.Came as code
-use Rattle.btree.specs.declared.Came.the-variants.{Bad, Plain, Split, Low}
-use Rattle.btree.specs.declared.Outcome.{Outcome}
-use Rattle.btree.specs.Mirror as M
-use Rattle.btree.specs.Mirror.{insertNodeM, setValueM, settled, insertHere, onNode, insertM}
-use Rattle.btree.specs.RemoveMirror as R
-use Rattle.btree.specs.RemoveMirror.{closeM, rebalanceM, settledLow, removeLastM, lastAtM, replaceOn, replaceM, withoutNext, takenM, removeM}
-use Rattle.btree.specs.Outcome.{outcomeWith, noSep, outcomeOf, isGood, isPlain, ofCame, FitCame, Makes, cameOf, ofFell, Does, Lasts, RemovesHere, RemovesEnd, PutsIn, Settles, FitUnless, Replaces, Inserts, Removes, Changes}
-use Rattle.btree.proofs.ReadSight.{sight-refused, sight-read, sight-at, sight-index, sight-child}
+use Rattle.outcome.specs.declared.Came as code
+use Rattle.outcome.specs.declared.Came.the-variants.{Bad, Plain, Split, Low}
+use Rattle.outcome.specs.declared.Outcome.{Outcome}
+use Rattle.outcome.specs.Mirror as M
+use Rattle.outcome.specs.Mirror.{insertNodeM, setValueM, settled, insertHere, onNode, insertM}
+use Rattle.outcome.specs.RemoveMirror as R
+use Rattle.outcome.specs.RemoveMirror.{closeM, rebalanceM, settledLow, removeLastM, lastAtM, replaceOn, replaceM, withoutNext, takenM, removeM}
+use Rattle.outcome.specs.Outcome.{outcomeWith, noSep, outcomeOf, isGood, isPlain, ofCame, FitCame, Makes, cameOf, ofFell, Does, Lasts, RemovesHere, RemovesEnd, PutsIn, Settles, FitUnless, Replaces, Inserts, Removes, Changes}
+use Rattle.outcome.proofs.ReadSight.{sight-refused, sight-read, sight-at, sight-index, sight-child}
 use Rattle.btree.proofs.ChangeSight.{sight-last-index, sight-last-child}
 
 -- ---- which outcome it is

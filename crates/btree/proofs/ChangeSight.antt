@@ -7,16 +7,16 @@ use Prim.Native.Nat.{ℕ}
 use lib.ListN.{length, getD}
 use Rattle.word.specs.Key.{Key}
 use Rattle.tree.specs.Tree.{at, always}
-use Rattle.node.specs.declared.edit.Found.{Found}
-use Rattle.node.specs.Codec.{isAccepted}
-use Rattle.node.specs.Layout.{childOf}
+use Rattle.codec.specs.declared.position.Found.{Found}
+use Rattle.codec.specs.Codec.{isAccepted}
+use Rattle.node.specs.Chain.{childOf}
 use Rattle.slots.specs.Code.{bytesIn, nodeIn, placesAt}
-use Rattle.node.specs.declared.search.Turn.the-variants.{Last}
-use Rattle.node.specs.declared.search.Sight.{Sight}
-use Rattle.node.specs.Search.{Sees}
+use Rattle.search.specs.declared.Turn.the-variants.{Last}
+use Rattle.search.specs.declared.Sight.{Sight}
+use Rattle.search.specs.Search.{Sees}
 use Rattle.slots.specs.Search.{SawAt}
-use Rattle.btree.proofs.ReadPlaces.{last-index, last-child}
-use Rattle.btree.proofs.ReadSight.{sight-tested, sight-sees}
+use Rattle.outcome.proofs.ReadPlaces.{last-index, last-child}
+use Rattle.outcome.proofs.ReadSight.{sight-tested, sight-sees}
 
 module _ (s : List ℕ) (d x : ℕ) (k : Key) {v : Sight} (saw : SawAt Last d s x k v) (good : not (v .good) ≡ false) where
   sees : Sees Last (placesAt d s x) (bytesIn s x) k v

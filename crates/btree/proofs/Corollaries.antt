@@ -1,7 +1,7 @@
 -- What a batch of accepted records does to the bytes of an audited store, told on the bytes: the answer, the entries, that it is
 -- audited again, that running it again changes no byte, and two batches against the merged one.
--- Read the files of this folder in the order Natural, ZipIndex, AtChild; Place, InsertWalk, SetState; RemoveWalk, Pair, Rebalance,
--- Remove, RemoveState; Room, Runs; or this one alone. Assumes nothing.
+-- Read the files of this folder in the order Natural, AtChild; Place, InsertWalk, SetState; RemoveWalk, Pair, Rebalance, Remove,
+-- RemoveState; Room, Runs (ZipIndex of `outcome` before them); or this one alone. Assumes nothing.
 use mathlib.Core.Path.{_≡_, refl, sym, ap, subst, _∙_}
 use mathlib.Core.List.{List, [], _∷_}
 use mathlib.Core.Option.{some}
@@ -23,7 +23,7 @@ use Rattle.slots.specs.Stands.{Audited}
 use Rattle.slots.specs.Entries.{entriesOf}
 use Rattle.slots.proofs.Unique.{one-store}
 use Rattle.slots.proofs.AuditedLaws.{stands-based, audited-count, audited-entries}
-use Rattle.btree.specs.RunMirror.{bad, done, noRoom, Ended}
+use Rattle.outcome.specs.RunMirror.{bad, done, noRoom, Ended}
 use Rattle.btree.proofs.Runs.{FitOp, FitRecs, endOf, EndedAs, batchM, batch-ended}
 
 -- ---- what fits stays fitting

@@ -21,13 +21,13 @@ use Rattle.tree.proofs.Zipper.{readParts, plug-slot, plug-length, seek-length, 
 use Rattle.tree.proofs.Slots.{occurs-append}
 use Rattle.tree.proofs.SetSlots.{Need, upward, needHere, need, set-took, set-occurs, graft-room}
 use Rattle.tree.proofs.RemoveSlots.{plug-occurs}
-use Rattle.node.specs.Codec.{Step, Fit}
+use Rattle.node.specs.Chain.{Step, Fit}
 use Rattle.slots.specs.Mirror.{writeNode}
 use Rattle.slots.specs.Stands.{label, mapRight, Holds, Based}
 use Rattle.slots.specs.Code.{readNodeAt}
-use Rattle.btree.specs.Mirror.{plain, Ran, placeM, insertOn, insertNodeM, settled, settleM, setValueM, insertHere, onNode, insertM}
+use Rattle.outcome.specs.Mirror.{plain, Ran, placeM, insertOn, insertNodeM, settled, settleM, setValueM, insertHere, onNode, insertM}
 use Rattle.btree.proofs.Natural.{mapLeft, mapZip, at-map, nextIs}
-use Rattle.btree.proofs.ZipIndex.{inserted-plug, revalued-plug}
+use Rattle.outcome.proofs.ZipIndex.{inserted-plug, revalued-plug}
 use Rattle.btree.proofs.AtChild.{Apart, read-at, AtChild, at-child, child-apart, node-holds, node-count, node-fits, node-read, at-after}
 use Rattle.btree.proofs.Place.{Done, leftPart, plug-written, plug-placed}
 

@@ -1,5 +1,4 @@
 pub mod Natural
-pub mod ZipIndex
 pub mod AtChild
 pub mod Place
 pub mod InsertWalk
@@ -12,13 +11,6 @@ pub mod RemoveState
 pub mod Room
 pub mod Runs
 pub mod Corollaries
-pub mod ReadPlaces
-pub mod ReadSight
-pub mod InsertCode
-pub mod SpliceCode
-pub mod RemoveCode
-pub mod RebalanceCode
-pub mod OneNodeCode
 pub mod ChangeSight
 pub mod ChangeCode
 pub mod RoomChain

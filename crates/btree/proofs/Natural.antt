@@ -11,9 +11,9 @@ use Rattle.tree.specs.Tree.{Node, Zip, seek, plug, at, join, same}
 use Rattle.tree.specs.Remove.{unsnoc}
 use Rattle.tree.specs.State.{AllRight}
 use Rattle.tree.proofs.Cases.{by-bool}
-use Rattle.node.specs.Codec.{Step, Fit, FitAll}
+use Rattle.node.specs.Chain.{Step, Fit, FitAll}
 use Rattle.slots.specs.Stands.{mapRight, mapNode}
-use Rattle.btree.specs.Mirror.{isNext}
+use Rattle.outcome.specs.Mirror.{isNext}
 
 -- ---- a map over children
 

@@ -16,12 +16,12 @@ use Rattle.tree.proofs.Cases.{by-bool}
 use Rattle.tree.proofs.Zipper.{AllLeft, AllZip, plug-all, plug-slot, plug-length}
 use Rattle.tree.proofs.Slots.{inStore-le, giveAll-occurs}
 use Rattle.tree.proofs.RemoveSlots.{occursZip, plug-occurs}
-use Rattle.node.specs.Codec.{Fit}
+use Rattle.node.specs.Chain.{Fit}
 use Rattle.slots.specs.Layout.{slotAt}
 use Rattle.slots.specs.Mirror.{writeNode, freeSlot}
 use Rattle.slots.specs.Stands.{label, mapNode, mapRight, Holds, Based}
 use Rattle.slots.proofs.Framing.{left-frame, right-frame, holds-frame, Ready, ready-frame, length-mapRight, put-tree, free-slot}
-use Rattle.btree.specs.RemoveMirror.{Fell, bad, fine, low, Lost, flag, closeM}
+use Rattle.outcome.specs.RemoveMirror.{Fell, bad, fine, low, Lost, flag, closeM}
 use Rattle.btree.proofs.Natural.{mapLeft, plug-map, FitZip, plug-fit-map}
 use Rattle.btree.proofs.RemoveWalk.{right-occurs}
 use Rattle.btree.proofs.AtChild.{Apart, AtChild, node-apart, node-count, node-fits}

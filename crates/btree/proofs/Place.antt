@@ -16,12 +16,12 @@ use Rattle.tree.proofs.Zipper.{readRest-append, plug-slot, plug-length, AllZip,
 use Rattle.tree.proofs.Slots.{occurs-append, inStore-le}
 use Rattle.tree.proofs.RemoveSlots.{occursZip, plug-occurs}
 use Rattle.tree.proofs.SetShape.{AllParts, take-all, drop-all}
-use Rattle.node.specs.Codec.{Fit, FitAll, Writable}
+use Rattle.node.specs.Chain.{Fit, FitAll, Writable}
 use Rattle.slots.specs.Layout.{slotAt}
 use Rattle.slots.specs.Mirror.{writeNode, Took, takeSlot}
 use Rattle.slots.specs.Stands.{label, mapRight, mapNode, Holds, Based}
 use Rattle.slots.proofs.Framing.{occurs-itself, first-within, holds-frame, Ready, ready-frame, length-mapRight, put-tree, take-slot}
-use Rattle.btree.specs.Mirror.{Came, plain, split, Ran, inTwo, splitM, placeM}
+use Rattle.outcome.specs.Mirror.{Came, plain, split, Ran, inTwo, splitM, placeM}
 use Rattle.btree.proofs.Natural.{mapLeft, plug-map, take-map, drop-map, FitNode, FitZip, plug-fit-map, fit-take, fit-drop}
 use Rattle.btree.proofs.AtChild.{Apart}
 

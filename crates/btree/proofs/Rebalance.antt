@@ -17,13 +17,13 @@ use Rattle.tree.proofs.Cases.{by-bool}
 use Rattle.tree.proofs.Zipper.{readRest-append, append-all}
 use Rattle.tree.proofs.Slots.{occurs-append}
 use Rattle.tree.proofs.Balance.{unsnoc-append, unsnoc-length}
-use Rattle.node.specs.Codec.{FitAll, Writable}
+use Rattle.node.specs.Chain.{FitAll, Writable}
 use Rattle.slots.specs.Stands.{label, mapNode, mapRight, Holds}
 use Rattle.slots.proofs.Framing.{length-mapRight}
 use Rattle.slots.specs.Code.{readNodeAt}
-use Rattle.btree.specs.RemoveMirror.{Lost, borrowLastM, borrowFirstM, mergeM, withRight, lastChild, around, rebalanceM}
+use Rattle.outcome.specs.RemoveMirror.{Lost, borrowLastM, borrowFirstM, mergeM, withRight, lastChild, around, rebalanceM}
 use Rattle.btree.proofs.Natural.{mapLeft, append-map, join-map, unsnoc-map, fit-append, fit-first, fit-last, all-first, all-last}
-use Rattle.btree.proofs.ZipIndex.{zipAt-plug}
+use Rattle.outcome.proofs.ZipIndex.{zipAt-plug}
 use Rattle.btree.proofs.AtChild.{AtChild, read-at, node-fits, node-read}
 use Rattle.btree.proofs.RemoveWalk.{left-occurs, right-occurs, nearLeft, nearRight, near, near-occurs}
 use Rattle.btree.proofs.Pair.{Less, wider, rewritten, merged}

@@ -21,15 +21,15 @@ use Rattle.tree.proofs.Zipper.{AllZip, at-all, plug-slot, plug-length, seek-plu
 use Rattle.tree.proofs.Slots.{occurs-append, giveAll-occurs, giveAll-stack}
 use Rattle.tree.proofs.RemoveShape.{IsZero, rootLeast-le}
 use Rattle.tree.proofs.RemoveSlots.{plug-occurs}
-use Rattle.node.specs.Codec.{Fit}
+use Rattle.node.specs.Chain.{Fit}
 use Rattle.slots.specs.Layout.{slotAt}
 use Rattle.slots.specs.Mirror.{writeNode}
 use Rattle.slots.specs.Stands.{label, mapNode, mapRight, Holds, Based}
 use Rattle.slots.proofs.Framing.{put-tree}
 use Rattle.slots.specs.Code.{readNodeAt}
-use Rattle.btree.specs.RemoveMirror.{Fell, bad, fine, low, Lost, closeM, settledLow, Last, nothing, broken, last, lastAtM, removeLastM, replaceOn, replaceM, takenM, removeHere, removeM}
+use Rattle.outcome.specs.RemoveMirror.{Fell, bad, fine, low, Lost, closeM, settledLow, Last, nothing, broken, last, lastAtM, removeLastM, replaceOn, replaceM, takenM, removeHere, removeM}
 use Rattle.btree.proofs.Natural.{mapLeft, mapZip, plug-map, at-map, nextIs}
-use Rattle.btree.proofs.ZipIndex.{replaced-plug}
+use Rattle.outcome.proofs.ZipIndex.{replaced-plug}
 use Rattle.btree.proofs.AtChild.{Apart, AtChild, at-child, at-after, read-at, node-apart, child-apart, node-holds, node-count, node-fits, node-read}
 use Rattle.btree.proofs.RemoveWalk.{left-occurs, right-occurs, slotOf, nearRight, near, near-occurs, largestWalk, removeWalk, Along, along-largest, along-remove, slotOf-same}
 use Rattle.btree.proofs.Pair.{Tells, Less, plug-ready, closed}

@@ -20,7 +20,7 @@ use Rattle.slots.specs.Mirror.{freeSlot, setRoot}
 use Rattle.slots.specs.Stands.{Holds, Based, StandsTree}
 use Rattle.slots.proofs.Framing.{OnlyAt, holds-frame, free-slot, set-root}
 use Rattle.slots.proofs.Building.{root-read}
-use Rattle.btree.specs.RemoveMirror.{Fell, bad, fine, low, Lost, removeM, shrinkM, removeKeyM}
+use Rattle.outcome.specs.RemoveMirror.{Fell, bad, fine, low, Lost, removeM, shrinkM, removeKeyM}
 use Rattle.btree.proofs.AtChild.{Apart, read-at}
 use Rattle.btree.proofs.Pair.{Tells}
 use Rattle.btree.proofs.RemoveWalk.{removeWalk, along-remove}

@@ -24,7 +24,7 @@ use Rattle.slots.proofs.Framing.{Within, first-within, firstFree-within, length
 use Rattle.slots.proofs.Building.{root-read}
 use Rattle.word.specs.Pick.{pickT, pickF}
 use Rattle.slots.specs.Code.{hasFree}
-use Rattle.btree.specs.RunMirror.{needOn, needM, wholeM, slotsNeededM}
+use Rattle.outcome.specs.RunMirror.{needOn, needM, wholeM, slotsNeededM}
 use Rattle.btree.proofs.Natural.{at-map, nextIs, isNext-map}
 use Rattle.btree.proofs.AtChild.{Apart, read-at, at-child, child-apart}
 

@@ -16,9 +16,9 @@ use Rattle.tree.proofs.Cases.{by-bool}
 use Rattle.slots.specs.Layout.{rootOf, depthOf, firstOf}
 use Rattle.slots.specs.Mirror.{isSlot}
 use Rattle.slots.specs.Code.{readNodeAt, hasFree}
-use Rattle.btree.specs.Mirror as M
-use Rattle.btree.specs.Mirror.{Ran, isNext, onNode, insertM, growM, setM}
-use Rattle.btree.specs.RunMirror.{needOn, needM, wholeM, slotsNeededM, Did, ofCame, setIf}
+use Rattle.outcome.specs.Mirror as M
+use Rattle.outcome.specs.Mirror.{Ran, isNext, onNode, insertM, growM, setM}
+use Rattle.outcome.specs.RunMirror.{needOn, needM, wholeM, slotsNeededM, Did, ofCame, setIf}
 
 -- ---- a chain of n slots has fewer too
 

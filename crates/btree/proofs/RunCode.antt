@@ -1,5 +1,5 @@
 -- Each way through the functions of `records` (a law NAME-k is of the k-th return): what they answer and leave is what the
--- mirrors of specs/RunMirror say. Assumes nothing.
+-- mirrors (RunMirror of `outcome`) say. Assumes nothing.
 use mathlib.Core.Path.{_≡_, refl, sym, ap, subst, _∙_}
 use mathlib.Core.List.{List, [], _∷_}
 use mathlib.Core.Bool.{Bool, true, false, cond, not}
@@ -14,24 +14,24 @@ use Rattle.word.specs.Key.{Key}
 use Rattle.tree.specs.Map.{Sep}
 use Rattle.tree.proofs.Cases.{by-bool}
 use Rattle.node.specs.declared.Child.{Child}
-use Rattle.node.specs.Codec.{longestKey}
+use Rattle.node.specs.Chain.{longestKey}
 use Rattle.slots.specs.Limits.{mostDepth}
 use Rattle.slots.specs.Layout.{rootOf, depthOf, firstOf}
 use Rattle.slots.specs.Code.{hasFree}
-use Rattle.btree.specs.declared.Came as code
-use Rattle.btree.specs.declared.Came.the-variants.{Bad, Plain, Split, Low}
-use Rattle.btree.specs.declared.Needed.{Needed}
-use Rattle.btree.specs.declared.Needed.the-variants as needed
-use Rattle.btree.specs.declared.Outcome.{Outcome}
+use Rattle.outcome.specs.declared.Came as code
+use Rattle.outcome.specs.declared.Came.the-variants.{Bad, Plain, Split, Low}
+use Rattle.outcome.specs.declared.Needed.{Needed}
+use Rattle.outcome.specs.declared.Needed.the-variants as needed
+use Rattle.outcome.specs.declared.Outcome.{Outcome}
 use Rattle.btree.specs.declared.records.Acted.{Acted}
 use Rattle.btree.specs.declared.records.Acted.the-variants as acted
-use Rattle.btree.specs.Mirror as S
-use Rattle.btree.specs.Mirror.{insertM, growM, setM}
-use Rattle.btree.specs.RemoveMirror as R
-use Rattle.btree.specs.RemoveMirror.{removeM, shrinkM, removeKeyM}
-use Rattle.btree.specs.RunMirror as M
-use Rattle.btree.specs.RunMirror.{Did, slotsNeededM, actOn, actM}
-use Rattle.btree.specs.Outcome.{outcomeWith, noSep, outcomeOf, ofCame, FitCame, Makes, cameOf, ofFell, Does, Inserts, Removes, ofNeed}
+use Rattle.outcome.specs.Mirror as S
+use Rattle.outcome.specs.Mirror.{insertM, growM, setM}
+use Rattle.outcome.specs.RemoveMirror as R
+use Rattle.outcome.specs.RemoveMirror.{removeM, shrinkM, removeKeyM}
+use Rattle.outcome.specs.RunMirror as M
+use Rattle.outcome.specs.RunMirror.{Did, slotsNeededM, actOn, actM}
+use Rattle.outcome.specs.Outcome.{outcomeWith, noSep, outcomeOf, ofCame, FitCame, Makes, cameOf, ofFell, Does, Inserts, Removes, ofNeed}
 use Rattle.btree.specs.RunCode.{actedOf, Acts, finished, roomFor, roomIn, setKey, removeKey}
 use Rattle.btree.proofs.ChangeCode.{came-of, other}
 use Rattle.btree.proofs.RoomChain.{set-with-room}

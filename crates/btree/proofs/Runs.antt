@@ -19,13 +19,13 @@ use Rattle.tree.proofs.Cases.{by-bool, by-cond}
 use Rattle.tree.proofs.StateLaws.{withRoot-good}
 use Rattle.tree.proofs.Depth.{depth-7}
 use Rattle.tree.proofs.BatchLaws.{sizes, runs-sizes}
-use Rattle.node.specs.Codec.{Fit}
+use Rattle.node.specs.Chain.{Fit}
 use Rattle.slots.specs.Limits.{mostSlots, mostDepth}
 use Rattle.slots.specs.Layout.{slotAt}
 use Rattle.slots.specs.Stands.{StandsTree, Stands}
 use Rattle.slots.proofs.Building.{root-read}
 use Rattle.slots.proofs.FormatLaws.{firstRoot, firstRoot-stands}
-use Rattle.btree.specs.RunMirror.{Acted, done, noRoom, Did, ofCame, ofFell, actOn, actM, Ended, onwardM, runAllM, startM}
+use Rattle.outcome.specs.RunMirror.{Acted, done, noRoom, Did, ofCame, ofFell, actOn, actM, Ended, onwardM, runAllM, startM}
 use Rattle.btree.proofs.InsertWalk.{walk}
 use Rattle.btree.proofs.SetState.{set-stands}
 use Rattle.btree.proofs.RemoveWalk.{removeWalk}

@@ -27,8 +27,8 @@ use Rattle.btree.specs.declared.records.Acted.{Acted}
 use Rattle.btree.specs.declared.records.Acted.the-variants as acted
 use Rattle.btree.specs.declared.records.Ran.{Ran}
 use Rattle.btree.specs.declared.records.Ended as code
-use Rattle.btree.specs.RunMirror as M
-use Rattle.btree.specs.RunMirror.{Did, actM, Ended, onwardM, runAllM}
+use Rattle.outcome.specs.RunMirror as M
+use Rattle.outcome.specs.RunMirror.{Did, actM, Ended, onwardM, runAllM}
 use Rattle.btree.specs.RunCode.{actedOf, Acts, Ends}
 use Rattle.btree.proofs.RunCode.{acted-number}
 

@@ -15,14 +15,14 @@ use Rattle.tree.specs.State.{State, grow, setState, slotsNeeded, rootLeast, Goo
 use Rattle.tree.proofs.SetSlots.{need, need-counts, isTwo, set-root-took}
 use Rattle.tree.proofs.StateLaws.{set-good, took-free}
 use Rattle.tree.proofs.Depth.{depth-7}
-use Rattle.node.specs.Codec.{Fit}
+use Rattle.node.specs.Chain.{Fit}
 use Rattle.slots.specs.Limits.{mostSlots}
 use Rattle.slots.specs.Layout.{slotAt}
 use Rattle.slots.specs.Mirror.{writeNode, Took, takeSlot, setRoot}
 use Rattle.slots.specs.Stands.{label, mapNode, Holds, Based, StandsTree}
 use Rattle.slots.proofs.Framing.{holds-frame, put-tree, take-slot, set-root}
 use Rattle.slots.proofs.Building.{root-read}
-use Rattle.btree.specs.Mirror.{plain, Ran, insertM, newRoot, growM, setM}
+use Rattle.outcome.specs.Mirror.{plain, Ran, insertM, newRoot, growM, setM}
 use Rattle.btree.proofs.AtChild.{Apart}
 use Rattle.btree.proofs.Place.{Done}
 use Rattle.btree.proofs.InsertWalk.{walk, inserted-root}

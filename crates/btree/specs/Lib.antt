@@ -1,7 +1,1 @@
-pub mod Mirror
-pub mod RemoveMirror
-pub mod RunMirror
-pub mod Outcome
-pub mod Short
-pub mod RemoveCode
 pub mod RunCode

@@ -8,15 +8,15 @@ use Rattle.word.specs.Key.{Key}
 use Rattle.tree.specs.Map.{Sep}
 use Rattle.slots.specs.Layout.{firstOf}
 use Rattle.slots.specs.Code.{hasFree}
-use Rattle.btree.specs.declared.Came as code
-use Rattle.btree.specs.declared.Came.the-variants.{Bad, Plain, Split, Low}
+use Rattle.outcome.specs.declared.Came as code
+use Rattle.outcome.specs.declared.Came.the-variants.{Bad, Plain, Split, Low}
 use Rattle.btree.specs.declared.records.Acted.{Acted}
 use Rattle.btree.specs.declared.records.Acted.the-variants as acted
 use Rattle.btree.specs.declared.records.Ended.{Ended}
-use Rattle.btree.specs.Mirror.{setM}
-use Rattle.btree.specs.RemoveMirror.{removeKeyM}
-use Rattle.btree.specs.RunMirror as M
-use Rattle.btree.specs.RunMirror.{Did, slotsNeededM}
+use Rattle.outcome.specs.Mirror.{setM}
+use Rattle.outcome.specs.RemoveMirror.{removeKeyM}
+use Rattle.outcome.specs.RunMirror as M
+use Rattle.outcome.specs.RunMirror.{Did, slotsNeededM}
 
 abbrev pub actedOf : M.Acted → Acted
 actedOf M.done = acted.Done

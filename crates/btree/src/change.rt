@@ -1,22 +1,22 @@
 // Change, insert and removal: from a node down to the leaf where the key belongs, and back up with what came of it. On the way
 // down a node is only searched; one is built where it is edited.
-use crate::Came;
-use crate::Outcome;
-use crate::insert::insert_node;
-use crate::insert::set_value;
-use crate::removal::put_separator;
-use crate::removal::rebalance;
-use crate::removal::remove_end;
-use crate::removal::remove_here;
+use insertion::insert_node;
+use insertion::set_value;
 use node::Child;
 use node::Index;
 use node::Separator;
 use node::Slot;
 use node::Value;
-use node::search::Turn;
+use outcome::Came;
+use outcome::Outcome;
+use removal::put_separator;
+use removal::rebalance;
+use removal::remove_end;
+use removal::remove_here;
+use search::Turn;
 ghost use Prim.Native.Nat.{suc};
-ghost use Rattle.btree.specs.RemoveMirror.{removeLastM};
-ghost use Rattle.btree.specs.Outcome.{Settles, Replaces, Lasts, Changes, Inserts, Removes};
+ghost use Rattle.outcome.specs.RemoveMirror.{removeLastM};
+ghost use Rattle.outcome.specs.Outcome.{Settles, Replaces, Lasts, Changes, Inserts, Removes};
 
 // What the node of a depth makes of what came of its child at index i.
 fn settle(store: &mut [u8], child: Child, depth: u32, i: Index, below: Outcome) -> Outcome

@@ -1,12 +1,12 @@
 // One run of equal keys on the store, and all runs of a batch whose records were found fine.
-use crate::Came;
-use crate::Needed;
-use crate::Outcome;
 use crate::change::change;
-use crate::insert::grow;
-use crate::insert::slots_needed;
-use crate::removal::shrink;
+use insertion::grow;
+use insertion::slots_needed;
 use node::Value;
+use outcome::Came;
+use outcome::Needed;
+use outcome::Outcome;
+use removal::shrink;
 ghost use mathlib.Core.Path.{_≡_};
 ghost use mathlib.Core.Bool.{true};
 ghost use mathlib.Core.Option.{none, some};
@@ -14,14 +14,14 @@ ghost use Prim.Native.Nat.{_≤_, _<_};
 ghost use lib.ListN.{length};
 ghost use Rattle.word.specs.Pick.{pick};
 ghost use Rattle.tree.specs.Batch.{runsOf};
-ghost use Rattle.node.specs.Codec.{longestKey};
+ghost use Rattle.node.specs.Chain.{longestKey};
 ghost use Rattle.slots.specs.Limits.{mostDepth};
 ghost use Rattle.slots.specs.Layout.{depthOf};
 ghost use Rattle.changes.specs.declared.Checked.the-variants.{Fine};
 ghost use Rattle.changes.specs.Records.{checkOf, recordsOf, keyAt, opAt};
 ghost use Rattle.changes.specs.Mirror.{flawAt};
 ghost use Rattle.changes.specs.RunAt.{runAt};
-ghost use Rattle.btree.specs.RunMirror.{actM, runAllM};
+ghost use Rattle.outcome.specs.RunMirror.{actM, runAllM};
 ghost use Rattle.btree.specs.RunCode.{finished, roomIn, setKey, removeKey, Acts, Ends};
 
 // What came of a run.

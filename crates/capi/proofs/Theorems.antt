@@ -8,7 +8,7 @@ use lib.ListN.{length}
 use Rattle.word.specs.Num.{Bytes}
 use Rattle.tree.specs.Batch.{Rec}
 use Rattle.node.specs.declared.Node.{Node}
-use Rattle.node.specs.declared.Places.{Places}
+use Rattle.codec.specs.declared.Places.{Places}
 use Rattle.audit.specs.Contract.{auditNumber, auditReached}
 use Rattle.audit.proofs.Theorems as audit
 use Rattle.batch.specs.declared.Batched.{Batched}
@@ -22,7 +22,8 @@ use Rattle.iter.specs.declared.LookedUp.{LookedUp}
 use Rattle.iter.specs.declared.Cursor.{Cursor}
 use Rattle.iter.specs.declared.Stepped.{Stepped}
 use Rattle.iter.specs.declared.Sought.{Sought}
-use Rattle.capi.specs.Face.{FormatsBy, AuditsBy, BatchesBy, ParsesBy, RunsLinesBy, LooksUp, Holds, Seeks, Steps, ReadsNode, ReadsSeparator, WritesNode}
+use Rattle.lent.specs.Lent.{Holds, Steps}
+use Rattle.capi.specs.Face.{FormatsBy, AuditsBy, BatchesBy, ParsesBy, RunsLinesBy, LooksUp, Seeks, ReadsNode, ReadsSeparator, WritesNode}
 
 pub format-once : {s t t′ : List ℕ} {n r r′ : ℕ} → FormatsBy s n r t → FormatsBy s n r′ t′ → (r ≡ r′) × (t ≡ t′)
 format-once a b = (a .number ∙ a .formats .number ∙ sym (b .number ∙ b .formats .number), a .formats .bytes ∙ sym (b .formats .bytes))

@@ -2,7 +2,7 @@
 -- with any result that the contracts allow. Assumes nothing.
 use mathlib.Core.Path.{_≡_}
 use mathlib.Core.Bool.{true}
-use Rattle.node.proofs.Table as node
+use Rattle.codec.proofs.Table as node
 use Rattle.tree.proofs.Nights.{nights}
 use Rattle.batch.proofs.Nights as batch
 

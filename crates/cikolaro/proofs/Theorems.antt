@@ -1,5 +1,5 @@
 -- The face's theorems: a refused call changes no byte of the store; one result of running lines. The batch's are in crate `batch`
--- (Theorems, Nights), the audit's in `audit`, the walks' in `iter`, the node's in `node`. Assumes nothing.
+-- (Theorems, Nights), the audit's in `audit`, the walks' in `iter`, the node's in `codec`. Assumes nothing.
 use mathlib.Core.Path.{_≡_, refl, sym, ap, subst, _∙_}
 use mathlib.Core.List.{List, _++_}
 use mathlib.Core.Bool.{Bool, true, false}

@@ -2,7 +2,7 @@
 // it answers and what every byte and word lent to it holds afterwards.
 ghost use mathlib.Core.Path.{_≡_};
 ghost use Rattle.word.specs.Part.{part};
-ghost use Rattle.node.specs.Layout.{readingOf, keyPlace, writtenOf, leftBy};
+ghost use Rattle.codec.specs.Layout.{readingOf, keyPlace, writtenOf, leftBy};
 ghost use Rattle.slots.specs.Code.{Formats};
 ghost use Rattle.audit.specs.Contract.{Audits};
 ghost use Rattle.batch.specs.Contract.{Batches};
@@ -13,6 +13,8 @@ ghost use Rattle.cikolaro.specs.Contract.{RunsLines};
 use audit::Verdict;
 use batch::Answer;
 use batch::Batched;
+use codec::Reading;
+use codec::Written;
 use iter::Cursor;
 use iter::LookedUp;
 use iter::Sought;
@@ -20,8 +22,6 @@ use iter::Stepped;
 use lines::Parsed;
 use node::Index;
 use node::Node;
-use node::Reading;
-use node::Written;
 use slots::Formatted;
 
 // ---- node bytes
@@ -30,21 +30,21 @@ use slots::Formatted;
 pub fn read(bytes: &[u8]) -> Reading
     ensures { λ r. ⌜ r ≡ readingOf (now (bytes .entry)) ⌝ }
 {
-    node::read(bytes)
+    codec::read(bytes)
 }
 
 // "The reader can hand back the key of a named separator as a part of the node bytes it was given".
 pub fn key(bytes: &[u8], index: Index) -> &[u8]
     ensures { λ r. ⌜ now r ≡ part (now (bytes .entry)) (keyPlace (now (bytes .entry)) (index .0) .start) (keyPlace (now (bytes .entry)) (index .0) .len) ⌝ }
 {
-    node::key(bytes, index)
+    codec::key(bytes, index)
 }
 
 // A node in standard form to the front of the destination: 0 with its length, 16, 4, 5, 10.
 pub fn write(node: Node, dst: &mut [u8]) -> Written
     ensures { λ r. ⌜ (r ≡ writtenOf node (now (dst .entry))) × (now (dst .exit) ≡ leftBy (writtenOf node (now (dst .entry))) node (now (dst .entry))) ⌝ }
 {
-    node::write(node, dst)
+    codec::write(node, dst)
 }
 
 // ---- the store

@@ -20,15 +20,16 @@ use Rattle.tree.specs.Walk.{notAbove, after, before}
 use Rattle.tree.proofs.Cases.{by-bool}
 use Rattle.node.specs.declared.Child.{Child}
 use Rattle.node.specs.declared.Value.{Value}
-use Rattle.node.specs.declared.Places.{Places}
-use Rattle.node.specs.declared.edit.Found.{Found}
-use Rattle.node.specs.Codec.{Step, Spot, scan, stepOf, isAccepted, longestKey}
-use Rattle.node.specs.Layout.{childOf, valueOf, padded, layout, placesOf}
-use Rattle.node.specs.Edit.{leading, isNext, foundIn, foundPast}
-use Rattle.node.proofs.LayoutLaws.{getD-padded}
-use Rattle.node.proofs.ScanLaws.{AllLie, scan-lies}
+use Rattle.codec.specs.declared.Places.{Places}
+use Rattle.codec.specs.declared.position.Found.{Found}
+use Rattle.node.specs.Chain.{Step, longestKey, childOf, valueOf, padded}
+use Rattle.codec.specs.Codec.{Spot, scan, stepOf, isAccepted}
+use Rattle.codec.specs.Layout.{layout, placesOf}
+use Rattle.codec.specs.Position.{leading, isNext, foundIn, foundPast}
+use Rattle.node.proofs.ChainLaws.{getD-padded}
+use Rattle.codec.proofs.ScanLaws.{AllLie, scan-lies}
 use Rattle.node.proofs.EditCode.{keys-part, copy-to-zeros}
-use Rattle.node.proofs.PositionLaws.{position-finds, position-past}
+use Rattle.codec.proofs.PositionLaws.{position-finds, position-past}
 use Rattle.slots.specs.Limits.{mostDepth}
 use Rattle.slots.specs.Layout.{isStore, rootOf, depthOf}
 use Rattle.slots.specs.Code.{bytesIn, placesIn, placesAt, firstIn, restIn, nodeIn, readNodeAt}
@@ -47,9 +48,9 @@ use Rattle.iter.specs.declared.Candidate.{Candidate}
 use Rattle.iter.specs.declared.Candidate.the-variants as candidate
 use Rattle.iter.specs.declared.LookedUp.{LookedUp}
 use Rattle.iter.specs.declared.LookedUp.the-variants as looked
-use Rattle.node.specs.declared.search.Turn as inside
-use Rattle.node.specs.declared.search.Sight.{Sight}
-use Rattle.node.specs.Search.{Sees}
+use Rattle.search.specs.declared.Turn as inside
+use Rattle.search.specs.declared.Sight.{Sight}
+use Rattle.search.specs.Search.{Sees}
 use Rattle.slots.specs.Search.{SawAt, SeesAt}
 use Rattle.slots.proofs.SearchLaws.{sees-at}
 use Rattle.iter.specs.Walk.{foundHere, lookOn, lookFrom, lookupOf, Walked, bad, walked, onForward, onBackward, forwardFrom, backwardFrom}

@@ -14,8 +14,7 @@ use Rattle.word.specs.Key.{Key}
 use Rattle.tree.specs.Tree.{below}
 use Rattle.tree.specs.Walk.{notAbove}
 use Rattle.tree.specs.Walk as tree
-use Rattle.node.specs.Codec.{longestKey}
-use Rattle.node.specs.Layout.{padded}
+use Rattle.node.specs.Chain.{longestKey, padded}
 use Rattle.slots.specs.Limits.{mostDepth}
 use Rattle.slots.specs.Layout.{isStore, rootOf, depthOf}
 use Rattle.iter.specs.declared.Place.{Place}

@@ -13,7 +13,7 @@ use Rattle.tree.specs.Map.{Sep, get}
 use Rattle.tree.specs.State.{storeEntries}
 use Rattle.tree.specs.Walk.{nextOf, previousOf, ahead, behind, keep, forwards, backwards}
 use Rattle.tree.proofs.Theorems.{steps-forward, steps-backward, walk-forward, walk-backward}
-use Rattle.node.specs.Codec.{longestKey}
+use Rattle.node.specs.Chain.{longestKey}
 use Rattle.slots.specs.Limits.{mostDepth}
 use Rattle.slots.specs.Layout.{isStore, depthOf}
 use Rattle.slots.specs.Stands.{Audited}

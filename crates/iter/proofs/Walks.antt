@@ -23,8 +23,7 @@ use Rattle.tree.proofs.Cases.{by-bool, by-cond}
 use Rattle.tree.proofs.Zipper.{seek-all, seek-read}
 use Rattle.tree.proofs.Slots.{occurs-append}
 use Rattle.tree.proofs.WalkLaws.{lookup-get, forward-next, backward-previous}
-use Rattle.node.specs.Codec.{FitAll, longestKey}
-use Rattle.node.specs.Layout.{childOf, valueOf, padded}
+use Rattle.node.specs.Chain.{FitAll, longestKey, childOf, valueOf, padded}
 use Rattle.slots.specs.Limits.{mostDepth}
 use Rattle.slots.specs.Layout.{rootOf, depthOf}
 use Rattle.slots.specs.Stands.{label, mapRight, mapNode, Holds, Based, StandsTree, Stands, Audited}

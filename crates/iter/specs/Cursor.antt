@@ -10,8 +10,7 @@ use Rattle.word.specs.Key.{Key}
 use Rattle.tree.specs.Map.{Sep}
 use Rattle.tree.specs.Tree.{below, always, never}
 use Rattle.tree.specs.Walk.{notAbove}
-use Rattle.node.specs.Codec.{longestKey}
-use Rattle.node.specs.Layout.{padded, valueOf}
+use Rattle.node.specs.Chain.{longestKey, padded, valueOf}
 use Rattle.slots.specs.Limits.{mostDepth}
 use Rattle.slots.specs.Layout.{isStore, rootOf, depthOf}
 use Rattle.iter.specs.declared.Place.{Place}

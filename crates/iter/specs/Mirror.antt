@@ -11,10 +11,10 @@ use Rattle.word.specs.Part.{part}
 use Rattle.word.specs.Key.{Key}
 use Rattle.tree.specs.Map.{Sep}
 use Rattle.node.specs.declared.Child.{Child}
-use Rattle.node.specs.declared.Places.{Places}
-use Rattle.node.specs.declared.edit.Found.{Found}
-use Rattle.node.specs.Codec.{isAccepted, longestKey}
-use Rattle.node.specs.Layout.{childOf, valueOf}
+use Rattle.codec.specs.declared.Places.{Places}
+use Rattle.codec.specs.declared.position.Found.{Found}
+use Rattle.codec.specs.Codec.{isAccepted}
+use Rattle.node.specs.Chain.{longestKey, childOf, valueOf}
 use Rattle.slots.specs.Limits.{mostDepth}
 use Rattle.slots.specs.Layout.{isStore, rootOf, depthOf}
 use Rattle.slots.specs.Code.{bytesIn, placesAt}
@@ -31,11 +31,11 @@ use Rattle.iter.specs.declared.Aim.the-variants.{Same, There, Before}
 use Rattle.iter.specs.declared.Spot.{Spot}
 use Rattle.iter.specs.declared.Candidate.{Candidate}
 use Rattle.iter.specs.declared.Candidate.the-variants as candidate
-use Rattle.node.specs.declared.search.Turn as inside
-use Rattle.node.specs.declared.search.Turn.the-variants as turn
-use Rattle.node.specs.declared.search.Spot as seen
-use Rattle.node.specs.declared.search.Sight.{Sight}
-use Rattle.node.specs.Search as search
+use Rattle.search.specs.declared.Turn as inside
+use Rattle.search.specs.declared.Turn.the-variants as turn
+use Rattle.search.specs.declared.Spot as seen
+use Rattle.search.specs.declared.Sight.{Sight}
+use Rattle.search.specs.Search as search
 use Rattle.iter.specs.Walk.{Walked, bad, walked}
 use Rattle.iter.specs.Cursor.{keyOf, movedTo}
 

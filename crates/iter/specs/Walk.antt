@@ -10,8 +10,7 @@ use Rattle.word.specs.Key.{Key}
 use Rattle.tree.specs.Map.{Sep}
 use Rattle.tree.specs.Tree.{Node, Zip, at, below, same}
 use Rattle.tree.specs.Walk.{after, before}
-use Rattle.node.specs.Codec.{Step, longestKey}
-use Rattle.node.specs.Layout.{valueOf}
+use Rattle.node.specs.Chain.{Step, longestKey, valueOf}
 use Rattle.slots.specs.Limits.{mostDepth}
 use Rattle.slots.specs.Layout.{isStore, rootOf, depthOf}
 use Rattle.slots.specs.Code.{readNodeAt}

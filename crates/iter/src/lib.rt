@@ -7,7 +7,7 @@ ghost use Rattle.iter.specs.Cursor.{soughtNumber, soughtOf, stepNumber, 
 ghost use Rattle.iter.specs.Mirror.{lengthOf, turnForward, turnBackward, isNowhere, inNode, stopsAt, candidateAt, hereOf, takenOf, walkDown, walkOf, leavesIt, movesIt, stepBy};
 use node::Child;
 use node::Value;
-use node::search::Sight;
+use search::Sight;
 
 // What a lookup answers.
 pub enum LookedUp {
@@ -103,15 +103,15 @@ fn is_nowhere(turn: Turn) -> bool
 }
 
 // How it turns in each node; one that is nowhere turns in none.
-fn in_node(turn: Turn) -> node::search::Turn
+fn in_node(turn: Turn) -> search::Turn
     ensures { λ r. ⌜ r ≡ inNode turn ⌝ }
 {
     match turn {
-        Turn::Nowhere => node::search::Turn::First,
-        Turn::First => node::search::Turn::First,
-        Turn::NotBelow => node::search::Turn::NotBelow,
-        Turn::Above => node::search::Turn::Above,
-        Turn::Last => node::search::Turn::Last,
+        Turn::Nowhere => search::Turn::First,
+        Turn::First => search::Turn::First,
+        Turn::NotBelow => search::Turn::NotBelow,
+        Turn::Above => search::Turn::Above,
+        Turn::Last => search::Turn::Last,
     }
 }
 
@@ -126,7 +126,7 @@ fn stops(aim: Aim, at: bool) -> bool
     }
 }
 
-fn candidate_at(child: Child, spot: node::search::Spot) -> Candidate
+fn candidate_at(child: Child, spot: search::Spot) -> Candidate
     ensures { λ r. ⌜ r ≡ candidateAt child spot ⌝ }
 {
     let value = spot.value;

@@ -64,7 +64,7 @@ fn run(store: &mut [u8], records: &[u8]) -> Answer {
             applied: 0,
         };
     }
-    btree::insert::start(store);
+    insertion::start(store);
     let ended = btree::records::run_all(store, records);
     let acted = ended.acted;
     Answer {

@@ -9,10 +9,9 @@ use native.Mathlib.Omega.{arith}
 use native.Mathlib.Numerals.{add-one}
 use Rattle.word.specs.Part.{part, over}
 use Rattle.word.proofs.PartLaws.{length-part, length-over, over-none, over-beside, over-seam, set-over, part-none}
-use Rattle.node.specs.Layout.{padded}
-use Rattle.node.specs.Mirror.{fill}
+use Rattle.node.specs.Chain.{padded}
+use Rattle.node.specs.EditMirror.{fill, copied}
 use Rattle.node.specs.Edit.{inserted, removed, insertAt, removeAt, changeAt}
-use Rattle.node.specs.EditMirror.{copied}
 
 -- ---- stores one after the other
 

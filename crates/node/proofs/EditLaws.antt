@@ -21,11 +21,10 @@ use Rattle.node.specs.declared.Value.{Value}
 use Rattle.node.specs.declared.Node.{Node}
 use Rattle.node.specs.declared.Separator.{Separator}
 use Rattle.node.specs.declared.edit.Halves.{Halves}
-use Rattle.node.specs.Codec.{Step, longestKey, Fit, FitAll}
-use Rattle.node.specs.Layout.{padded, childOf, valueOf, blocks, nodeOf}
+use Rattle.node.specs.Chain.{Step, longestKey, Fit, FitAll, padded, childOf, valueOf, blocks, nodeOf}
 use Rattle.node.specs.Edit.{nodeFrom, separatorOf, inserted, removed, insertAt, removeAt, changeAt, replaceAt, valueAt, childAt, kids, pushFront, popFront, joined, stepAt, parted, halves, halvesFrom}
 use Rattle.node.specs.EditMirror.{sepAt, withSeparator, withValue, withChild, opened, insertedAt, closed, removedAt, keptTo, restFrom, splitAt, joinedWith}
-use Rattle.node.proofs.LayoutLaws.{length-padded, getD-padded, Short, blocks-append, length-blocks}
+use Rattle.node.proofs.ChainLaws.{length-padded, getD-padded, Short, blocks-append, length-blocks}
 use Rattle.node.proofs.ArrayLaws.{drop-past, inserted-behind, removed-behind, inserted-left, inserted-right, over-right, take-own, padded-inserted, padded-removed, padded-take, padded-drop, padded-over, padded-put, padded-set, map-taken, map-dropped, map-inserted, map-removed, map-changed, map-unchanged, length-changed}
 
 split-step : (r : List Step) (j : ℕ) → j < length r → r ≡ take j r ++ (stepAt j r ∷ drop (suc j) r)

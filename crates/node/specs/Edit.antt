@@ -1,18 +1,12 @@
 -- Edits of a node's contents. A chain is a first child, then separators, each with the child right of it. Assumes nothing.
 use mathlib.Core.List.{List, [], _∷_, _++_, map}
-use mathlib.Core.Bool.{Bool, false, cond}
 use Prim.Native.Nat.{ℕ, zero, suc, _+_}
 use lib.ListN.{length, getD, take, drop}
-use Rattle.word.specs.Key.{Key}
 use Rattle.tree.specs.Map.{Sep}
-use Rattle.tree.specs.Tree.{below, same}
-use Rattle.tree.specs.Walk.{notAbove}
 use Rattle.node.specs.declared.Node.{Node}
 use Rattle.node.specs.declared.Separator.{Separator}
-use Rattle.node.specs.declared.edit.Found.{Found}
 use Rattle.node.specs.declared.edit.Halves.{Halves}
-use Rattle.node.specs.Codec.{Step}
-use Rattle.node.specs.Layout.{padded, valueOf, nodeOf}
+use Rattle.node.specs.Chain.{Step, padded, valueOf, nodeOf}
 
 abbrev pub Chain : Type 0
 Chain = ℕ × List Step
@@ -98,23 +92,3 @@ halves i x a = parted (a .0) (insertAt i x (a .1))
 
 abbrev pub halvesFrom : Parted → Halves
 halvesFrom p = record { left = nodeFrom (p .left); middle = separatorOf (p .middle); right = nodeFrom (p .right) }
-
--- ---- "`position` compares separators from index 0."
-
-module _ {A C : Type 0} where
-  -- how many separators in front p holds of
-  abbrev pub leading : (Sep A → Bool) → List (Sep A × C) → ℕ
-  leading p [] = 0
-  leading p (x ∷ r) = cond (p (x .0)) (suc (leading p r)) 0
-
-  abbrev pub isNext : Key → List (Sep A × C) → Bool
-  isNext k [] = false
-  isNext k (x ∷ r) = same k (x .0)
-
--- the first index whose key is not below k, and whether it is k
-unfoldable pub foundIn : Key → List Step → Found
-foundIn k r = record { index = record { 0 = leading (below k) r }; at = isNext k (drop (leading (below k) r) r) }
-
--- the first index whose key is above k
-unfoldable pub foundPast : Key → List Step → Found
-foundPast k r = record { index = record { 0 = leading (notAbove k) r }; at = false }

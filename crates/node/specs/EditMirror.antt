@@ -1,61 +1,29 @@
 -- What the edits make of any node, whatever its arrays hold: their contracts cite it. On the node of a chain they are the edits
 -- of specs/Edit.antt, which is what callers use: proofs/EditLaws.antt. Assumes nothing.
 use mathlib.Core.List.{List, [], _∷_, _++_}
-use mathlib.Core.Bool.{Bool, true, false}
-use Prim.Native.Nat.{ℕ, zero, suc, _+_, _*_, _-_}
+use Prim.Native.Nat.{ℕ, _+_, _*_, _-_}
 use lib.ListN.{getD, take, drop, set}
 use lib.Dec.{leb, ltb}
 use Rattle.word.specs.Pick.{pick}
-use Rattle.word.specs.Key.{Key, cmp, orderOf}
-use Rattle.word.specs.declared.Order.{Order}
-use Rattle.word.specs.declared.Order.the-variants.{Less, Equal, Greater}
 use Rattle.word.specs.Part.{part, over}
 use Rattle.word.specs.Num.{zeros}
 use Rattle.word.specs.At.{fitsIn}
 use Rattle.node.specs.declared.Child.{Child}
 use Rattle.node.specs.declared.Value.{Value}
 use Rattle.node.specs.declared.Node.{Node}
-use Rattle.node.specs.declared.Places.{Places}
 use Rattle.node.specs.declared.Separator.{Separator}
-use Rattle.node.specs.declared.edit.Found.{Found}
 use Rattle.node.specs.declared.edit.Halves.{Halves}
-use Rattle.node.specs.Layout.{padded, childOf, valueOf}
-use Rattle.node.specs.Mirror.{fill}
+use Rattle.node.specs.Chain.{padded, childOf, valueOf}
 use Rattle.node.specs.Edit.{inserted, removed, insertAt, removeAt, separatorOf}
+
+-- stores one after the other, from i on
+abbrev pub fill : {A : Type 0} → List A → ℕ → List A → List A
+fill l i [] = l
+fill l i (x ∷ xs) = fill (set l i x) (i + 1) xs
 
 -- n of src from `from` on, stored in dst at `at`, as far as both reach
 unfoldable pub copied : {A : Type 0} → List A → ℕ → List A → ℕ → ℕ → List A
 copied dst at src from n = fill dst at (part src from n)
-
--- ---- position
-
-abbrev pub found : ℕ → Bool → Found
-found i b = record { index = record { 0 = i }; at = b }
-
--- whether the search goes on behind a key, to which k has this order
-abbrev pub goesOn : Bool → Order → Bool
-goesOn past Less = false
-goesOn past Equal = past
-goesOn past Greater = true
-
-abbrev pub isEqual : Order → Bool
-isEqual Less = false
-isEqual Equal = true
-isEqual Greater = false
-
--- the order of k and the key at index i
-unfoldable pub orderAt : Places → List ℕ → Key → ℕ → Order
-orderAt p s k i = orderOf (cmp k (part s (getD (p .starts) i 0) (getD (p .lens) i 0)))
-
--- the search from index i on, n indexes left
-unfoldable pub positionFrom : Places → List ℕ → Key → Bool → ℕ → ℕ → Found
-positionFrom p s k past i zero = found 8 false
-positionFrom p s k past i (suc n) =
-    pick (leb (p .count) i) (found i false)
-    (pick (goesOn past (orderAt p s k i)) (positionFrom p s k past (i + 1) n) (found i (isEqual (orderAt p s k i))))
-
-unfoldable pub positionOf : Places → List ℕ → Key → Bool → Found
-positionOf p s k past = positionFrom p s k past 0 8
 
 -- ---- one place read or set
 

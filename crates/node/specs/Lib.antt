@@ -1,7 +1,3 @@
-pub mod Codec
-pub mod Layout
-pub mod Mirror
+pub mod Chain
 pub mod Edit
 pub mod EditMirror
-pub mod Search
-pub mod Splice

@@ -2,84 +2,22 @@
 use crate::Child;
 use crate::Index;
 use crate::Node;
-use crate::Places;
 use crate::Separator;
 use crate::Value;
-use word::Order;
 ghost use mathlib.Core.Path.{_≡_};
 ghost use mathlib.Core.List.{[], _∷_, _++_};
 ghost use Prim.Native.Nat.{min, _+_, _*_, _-_};
 ghost use lib.ListN.{getD, length, take};
 ghost use Rattle.word.specs.Num.{zeros};
 ghost use Rattle.word.specs.At.{copyAt};
-ghost use Rattle.node.specs.Layout.{childOf, valueOf, nodeOf};
+ghost use Rattle.node.specs.Chain.{childOf, valueOf, nodeOf};
 ghost use Rattle.node.specs.Edit.{insertAt, inserted, removeAt, removed, separatorOf};
-ghost use Rattle.node.specs.EditMirror.{copied, goesOn, isEqual, positionOf, sepAt, withSeparator, withValue, withChild, opened, insertedAt, closed, removedAt, keptTo, restFrom, joinedWith, splitAt};
-
-// Where a key stands among a node's, or where it belongs.
-pub struct Found {
-    pub index: Index,
-    pub at: bool,
-}
+ghost use Rattle.node.specs.EditMirror.{copied, sepAt, withSeparator, withValue, withChild, opened, insertedAt, closed, removedAt, keptTo, restFrom, joinedWith, splitAt};
 
 pub struct Halves {
     pub left: Node,
     pub middle: Separator,
     pub right: Node,
-}
-
-// Whether a search goes on behind a key, to which the key that is looked for has this order.
-pub fn goes_on(order: Order, past: bool) -> bool
-    ensures { λ r. ⌜ r ≡ goesOn past order ⌝ }
-{
-    match order {
-        Order::Less => false,
-        Order::Equal => past,
-        Order::Greater => true,
-    }
-}
-
-pub fn is_equal(order: Order) -> bool
-    ensures { λ r. ⌜ r ≡ isEqual order ⌝ }
-{
-    match order {
-        Order::Less => false,
-        Order::Equal => true,
-        Order::Greater => false,
-    }
-}
-
-impl Places {
-    // The first index whose key is not below the given one, and whether it is that one; or, past it, the first above.
-    // `s` are the node bytes that the places were read from.
-    pub fn position(self, s: &[u8], key: &[u8], past: bool) -> Found
-        ensures { λ r. ⌜ r ≡ positionOf self (now (s .entry)) (now (key .entry)) past ⌝ }
-    {
-        let count = self.count;
-        let mut i: usize = 0;
-        while i < 8 {
-            if count <= i {
-                return Found {
-                    index: Index(i),
-                    at: false,
-                };
-            }
-            let start = self.starts[i];
-            let len = self.lens[i];
-            let order = word::compare_part(key, s, start, len);
-            if !goes_on(order, past) {
-                return Found {
-                    index: Index(i),
-                    at: is_equal(order),
-                };
-            }
-            i += 1;
-        }
-        Found {
-            index: Index(8),
-            at: false,
-        }
-    }
 }
 
 // ---- arrays: n elements of src from `from` on to dst at `at`, as far as both reach

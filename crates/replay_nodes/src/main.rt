@@ -1,4 +1,4 @@
-// Replays the stored lists of node readings and node writings through crate node, and writes how many came out as the
+// Replays the stored lists of node readings and node writings through crate codec, and writes how many came out as the
 // lists have them. The first three that don't are named, by their places in the list from 0 on.
 mod reading;
 mod writing;

@@ -10,11 +10,11 @@
 // Below, `told` is all behind the node bytes.
 ghost use Prim.Native.Nat.{_≤_, _<_};
 ghost use Rattle.lists.specs.Within.{Within};
+use codec::Reading;
 use lists::Span;
 use lists::Verdict;
 use node::Child;
 use node::Index;
-use node::Reading;
 use node::Value;
 
 // How many separators are told; a refused reading has none.
@@ -139,7 +139,7 @@ fn same_parts(bytes: &[u8], told: &[u8]) -> bool {
         let span = key(bytes, told, i);
         let start = span.start;
         let end = span.end;
-        let found = node::key(bytes, Index(i));
+        let found = codec::key(bytes, Index(i));
         if !check::same(found, &bytes[start..end]) {
             return false;
         }
@@ -180,7 +180,7 @@ pub fn check(block: &[u8]) -> Verdict {
     let span = lists::part(block, 0);
     let start = span.start;
     let end = span.end;
-    let reading = node::read(&block[start..end]);
+    let reading = codec::read(&block[start..end]);
     let ending = reading.ending;
     Verdict {
         agreed: agrees(reading, &block[start..end], &block[end..]),

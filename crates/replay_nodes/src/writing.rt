@@ -7,10 +7,10 @@
 //     part     the node in standard form
 ghost use Prim.Native.Nat.{_≤_};
 ghost use lib.ListN.{length};
+use codec::Written;
 use node::Child;
 use node::Node;
 use node::Value;
-use node::Written;
 
 // What stands in a destination before a writing.
 const MARK: u8 = 0xA5;
@@ -87,7 +87,7 @@ fn given(block: &[u8]) -> Case {
 fn write_to(node: Node, dst: &mut [u8], room: usize) -> Written
     requires { ⌜ room ≤ length (now dst) ⌝ }
 {
-    node::write(node, &mut dst[0..room])
+    codec::write(node, &mut dst[0..room])
 }
 
 // Whether a writing into so much room gives the form and leaves the mark everywhere else; with less room than the form

@@ -17,8 +17,9 @@ use Rattle.tree.specs.State.{State, AllRight, stateEntries, Good, Store, bare, 
 use Rattle.tree.proofs.Cases.{by-cond, by-bool}
 use Rattle.tree.proofs.Slots.{occurs-append}
 use Rattle.tree.proofs.Depth.{depth-limit}
-use Rattle.node.specs.Codec.{Step, Writable, isAccepted, scan, Decoded, decode}
-use Rattle.node.proofs.Theorems.{scan-writable}
+use Rattle.node.specs.Chain.{Step, Writable}
+use Rattle.codec.specs.Codec.{isAccepted, scan, Decoded, decode}
+use Rattle.codec.proofs.Theorems.{scan-writable}
 use Rattle.slots.specs.Layout.{slotAt, used, start, rootOf, depthOf}
 use Rattle.slots.specs.Mirror.{lengthAt, nodeBytes, holdsNode, readOf, readNode}
 use Rattle.slots.specs.Stands.{label, mapRight, mapNode, InSlot, Holds, Based, StandsTree, Stands}

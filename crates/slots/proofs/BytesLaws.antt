@@ -14,8 +14,9 @@ use Rattle.word.specs.Num.{zeros}
 use Rattle.word.specs.At.{writeAt, copyAt, clearAt}
 use Rattle.word.proofs.PartLaws.{length-over, part-whole}
 use Rattle.word.proofs.AtLaws.{length-writeAt, copyAt-in, clearAt-in}
-use Rattle.node.specs.Codec.{Step, encode, Writable}
-use Rattle.node.proofs.Theorems.{standard-most}
+use Rattle.node.specs.Chain.{Step, Writable}
+use Rattle.codec.specs.Codec.{encode}
+use Rattle.codec.proofs.Theorems.{standard-most}
 use Rattle.slots.specs.Layout.{start}
 use Rattle.slots.specs.Mirror.{isSlot, writeNode}
 use Rattle.slots.specs.Code.{nodeRoom}

@@ -20,21 +20,23 @@ use Rattle.word.proofs.NumLaws.{length-le, length-zeros, zeros-append, bytes-pa
 use Rattle.word.proofs.AtLaws.{writeAt-in, length-writeAt, clearAt-in}
 use Rattle.tree.specs.State.{AllRight}
 use Rattle.node.specs.declared.Child.{Child}
-use Rattle.node.specs.declared.Places.{Places}
-use Rattle.node.specs.declared.Reading.{Reading}
+use Rattle.codec.specs.declared.Places.{Places}
+use Rattle.codec.specs.declared.Reading.{Reading}
 use Rattle.node.specs.declared.Node as struct
-use Rattle.node.specs.declared.Written.{Written}
-use Rattle.node.specs.declared.Written.the-variants as written
-use Rattle.node.specs.declared.Ending.the-variants.{ShortChild}
-use Rattle.node.specs.Codec.{Step, encode, decode, isAccepted, Writable, stop, settle, scanFrom, scan}
-use Rattle.node.specs.Mirror.{copied}
-use Rattle.node.specs.Layout.{childOf, padded, nodeOf, placesOf, readingOf, anyOf, anyFirst, writtenOf, leftBy, writtenNumber, writtenLength, stepsOf}
-use Rattle.node.specs.Layout as layout
-use Rattle.node.proofs.EncodeLaws.{length-encode}
-use Rattle.node.proofs.ReadLaws.{read-done}
-use Rattle.node.proofs.LayoutLaws.{steps-node, first-node}
-use Rattle.node.proofs.Theorems.{when-done, standard-most, writes-chain, scan-writable}
-use Rattle.node.proofs.WriteLaws.{AnyLeft, any-start, any-none, any-past, any-here, any-turn}
+use Rattle.codec.specs.declared.Written.{Written}
+use Rattle.codec.specs.declared.Written.the-variants as written
+use Rattle.codec.specs.declared.Ending.the-variants.{ShortChild}
+use Rattle.node.specs.Chain as chain
+use Rattle.node.specs.Chain.{Step, Writable, childOf, padded, nodeOf, stepsOf}
+use Rattle.codec.specs.Codec.{encode, decode, isAccepted, stop, settle, scanFrom, scan}
+use Rattle.codec.specs.Mirror.{copied}
+use Rattle.codec.specs.Layout.{placesOf, readingOf, anyOf, anyFirst, writtenOf, leftBy, writtenNumber, writtenLength}
+use Rattle.codec.specs.Layout as layout
+use Rattle.codec.proofs.EncodeLaws.{length-encode}
+use Rattle.codec.proofs.ReadLaws.{read-done}
+use Rattle.node.proofs.ChainLaws.{steps-node, first-node}
+use Rattle.codec.proofs.Theorems.{when-done, standard-most, writes-chain, scan-writable}
+use Rattle.codec.proofs.WriteLaws.{AnyLeft, any-start, any-none, any-past, any-here, any-turn}
 use Rattle.slots.specs.declared.Formatted.{Formatted}
 use Rattle.slots.specs.declared.Formatted.the-variants.{Done, Refused}
 use Rattle.slots.specs.Limits.{headerSize, slotSize, mostSlots, leastNode, mostNode}
@@ -312,7 +314,7 @@ unfolding writtenOf
 written-same n d e h = rw h
 
 refused-left : (n : struct.Node) (d : List ℕ) (w : Written) → w ≡ writtenOf n d → writtenLength w ≡ 0 → (leftBy w n d ≡ d) × (eqb (writtenNumber w) 0 ≡ false)
-refused-left n d (written.Done len) e h = absurd (omega (arith, h, when-done n d len (sym e) .len-is, length-encode (layout.firstOf n) (stepsOf n)))
+refused-left n d (written.Done len) e h = absurd (omega (arith, h, when-done n d len (sym e) .len-is, length-encode (chain.firstOf n) (stepsOf n)))
 refused-left n d written.TooMany e h = (refl, refl)
 refused-left n d written.LongKey e h = (refl, refl)
 refused-left n d written.NoValue e h = (refl, refl)
@@ -320,9 +322,9 @@ refused-left n d written.ShortDestination e h = (refl, refl)
 
 record Wrote (n : struct.Node) (d : List ℕ) (w : Written) : Type 0 where
   pub number : eqb (writtenNumber w) 0 ≡ true
-  pub len : writtenLength w ≡ length (encode (layout.firstOf n) (stepsOf n))
-  pub room : length (encode (layout.firstOf n) (stepsOf n)) ≤ length d
-  pub left : leftBy w n d ≡ over d 0 (encode (layout.firstOf n) (stepsOf n))
+  pub len : writtenLength w ≡ length (encode (chain.firstOf n) (stepsOf n))
+  pub room : length (encode (chain.firstOf n) (stepsOf n)) ≤ length d
+  pub left : leftBy w n d ≡ over d 0 (encode (chain.firstOf n) (stepsOf n))
 
 wrote : (n : struct.Node) (d : List ℕ) (w : Written) → w ≡ writtenOf n d → (writtenLength w ≡ 0 → ⊥) → Wrote n d w
 wrote n d (written.Done len) e h = let a = when-done n d len (sym e) in record { number = refl; len = a .len-is; room = a .room; left = refl }
@@ -357,7 +359,7 @@ module _ (s : List ℕ) (x : ℕ) (n : struct.Node) {b : Bool} (test : b ≡ isS
     unfolding part
     lent = let e : (at + slotSize) - (at + 4) ≡ nodeRoom = omega arith in rw e
 
-    -- the part that is lent to `node::write`, and what it holds then
+    -- the part that is lent to `codec::write`, and what it holds then
     module _ {w : Written} {d : List ℕ}
         (answer : w ≡ writtenOf n (take ((at + slotSize) - (at + 4)) (drop (at + 4) s)))
         (left : d ≡ leftBy (writtenOf n (take ((at + slotSize) - (at + 4)) (drop (at + 4) s))) n (take ((at + slotSize) - (at + 4)) (drop (at + 4) s)))
@@ -392,9 +394,9 @@ module _ (s : List ℕ) (x : ℕ) (n : struct.Node) {b : Bool} (test : b ≡ isS
             pub node-small : len ≤ nodeRoom
             node-small = omega (arith, size, done .len, done .room, length-room)
 
-            after-is : after ≡ over s (at + 4) (encode (layout.firstOf n) (stepsOf n))
+            after-is : after ≡ over s (at + 4) (encode (chain.firstOf n) (stepsOf n))
             after-is =
-                let c : List ℕ = encode (layout.firstOf n) (stepsOf n) in
+                let c : List ℕ = encode (chain.firstOf n) (stepsOf n) in
                 let e : d ≡ over (part s (at + 4) nodeRoom) 0 c = left-by ∙ done .left in
                 let l : length d ≡ nodeRoom = ap length e ∙ length-over (part s (at + 4) nodeRoom) 0 c (omega (arith, done .room)) ∙ length-room in
                 let z : (at + 4) + 0 ≡ at + 4 = omega arith in
@@ -403,7 +405,7 @@ module _ (s : List ℕ) (x : ℕ) (n : struct.Node) {b : Bool} (test : b ≡ isS
             pub write-3 : {u v : List ℕ} → u ≡ writeAt 4 after at len → v ≡ clearAt u ((at + 4) + len) (nodeRoom - len) → v ≡ writtenIn s x n
             unfolding writtenIn writeNode
             write-3 p q =
-                let c : List ℕ = encode (layout.firstOf n) (stepsOf n) in
+                let c : List ℕ = encode (chain.firstOf n) (stepsOf n) in
                 let l : len ≡ length c = size ∙ done .len in
                 let t : List ℕ = writeAt 4 (over s (at + 4) c) at len in
                 let k : length t ≡ length s = length-writeAt 4 (over s (at + 4) c) at len ∙ length-over s (at + 4) c (omega (arith, l, node-room, node-small)) in

@@ -15,7 +15,7 @@ use Rattle.tree.specs.State.{AllRight}
 use Rattle.tree.proofs.Cases.{by-bool}
 use Rattle.tree.proofs.Zipper.{AllLeft}
 use Rattle.tree.proofs.Slots.{occurs-append, in-store, inStore-le}
-use Rattle.node.specs.Codec.{Writable}
+use Rattle.node.specs.Chain.{Writable}
 use Rattle.slots.specs.Layout.{slotAt}
 use Rattle.slots.specs.Mirror.{readNode, writeNode, takeSlot, freeSlot, setRoot}
 use Rattle.slots.specs.Stands.{label, mapRight, mapNode, InSlot, Holds, Links, Based}

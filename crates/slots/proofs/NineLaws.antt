@@ -16,14 +16,15 @@ use Rattle.word.specs.At.{readAt}
 use Rattle.word.proofs.NumLaws.{length-le}
 use Rattle.word.proofs.AtLaws.{fits-in}
 use Rattle.tree.specs.Map.{Sep}
-use Rattle.node.specs.Codec.{Step, sepLength, restLength, encodeSep, encodeRest, encode, FitAll, isAccepted, Spot, Scan, before, headAt, scanFrom, settle, scan}
-use Rattle.node.specs.Layout.{valueOf, layout, placesOf, placeIn, keyPlace}
+use Rattle.node.specs.Chain.{Step, FitAll, valueOf}
+use Rattle.codec.specs.Codec.{sepLength, restLength, encodeSep, encodeRest, encode, isAccepted, Spot, Scan, before, headAt, scanFrom, settle, scan}
+use Rattle.codec.specs.Layout.{layout, placesOf, placeIn, keyPlace}
 use Rattle.node.specs.Edit.{stepAt}
-use Rattle.node.specs.Splice.{spliceAt}
-use Rattle.node.proofs.ByteLaws.{read-seam}
-use Rattle.node.proofs.EncodeLaws.{length-sep, rest-append, length-encode, sep-least, HeadIs, head-is}
-use Rattle.node.proofs.LayoutLaws.{getD-padded}
-use Rattle.node.proofs.ReadLaws.{starts-at, lens-at}
+use Rattle.codec.specs.Splice.{spliceAt}
+use Rattle.codec.proofs.ByteLaws.{read-seam}
+use Rattle.codec.proofs.EncodeLaws.{length-sep, rest-append, length-encode, sep-least, HeadIs, head-is}
+use Rattle.node.proofs.ChainLaws.{getD-padded}
+use Rattle.codec.proofs.ReadLaws.{starts-at, lens-at}
 
 -- a separator that is written at a place, and what was read of it
 record Lies (s : List ℕ) (at : ℕ) (e : Sep ℕ) (y : Spot) : Type 0 where

@@ -12,8 +12,8 @@ use Rattle.word.specs.Part.{part, over}
 use Rattle.word.proofs.PartLaws.{length-part, length-over, part-over, part-before, part-behind, part-part, over-in}
 use Rattle.word.proofs.NumLaws.{length-le, length-zeros}
 use Rattle.tree.proofs.Cases.{by-bool}
-use Rattle.node.specs.Codec.{Step, Writable}
-use Rattle.node.proofs.Theorems.{standard-most}
+use Rattle.node.specs.Chain.{Step, Writable}
+use Rattle.codec.proofs.Theorems.{standard-most}
 use Rattle.slots.specs.Limits.{headerSize, slotSize}
 use Rattle.slots.specs.Layout.{used, idle, headOf, start, slotAt}
 

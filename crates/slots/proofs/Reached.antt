@@ -17,8 +17,9 @@ use Rattle.tree.specs.State.{AllRight, Fits, Shaped, rootLeast, Store, bare, ro
 use Rattle.tree.proofs.Cases.{by-bool}
 use Rattle.tree.proofs.Slots.{occurs-append}
 use Rattle.tree.proofs.RemoveShape.{rootLeast-le}
-use Rattle.node.specs.Codec.{Step, encode, Writable, Standard}
-use Rattle.node.proofs.Theorems.{standard-length, standard-most}
+use Rattle.node.specs.Chain.{Step, Writable}
+use Rattle.codec.specs.Codec.{encode, Standard}
+use Rattle.codec.proofs.Theorems.{standard-length, standard-most}
 use Rattle.slots.specs.Limits.{leastNode, mostNode}
 use Rattle.slots.specs.Layout.{used, idle, slotAt, rootOf, depthOf, countOf}
 use Rattle.slots.specs.Mirror.{isSlot, nodeBytes, readNode}

@@ -10,14 +10,14 @@ use Rattle.word.specs.Pick.{pick, pickT, by-test}
 use Rattle.word.specs.At.{fitsIn}
 use Rattle.word.specs.Key.{Key}
 use Rattle.node.specs.declared.Child.{Child}
-use Rattle.node.specs.declared.Places.{Places}
-use Rattle.node.specs.declared.search.Turn.{Turn}
-use Rattle.node.specs.declared.search.Sight.{Sight}
-use Rattle.node.specs.Codec.{isAccepted, scanFrom}
-use Rattle.node.specs.Layout.{layout, placesOf, anyOf}
-use Rattle.node.specs.Search as node
-use Rattle.node.specs.Search.{emptySight, sightIn, sightOf, Saw, Sees, fitsPlaces}
-use Rattle.node.proofs.SearchLaws.{sight-good, sight-sees}
+use Rattle.codec.specs.declared.Places.{Places}
+use Rattle.search.specs.declared.Turn.{Turn}
+use Rattle.search.specs.declared.Sight.{Sight}
+use Rattle.codec.specs.Codec.{isAccepted, scanFrom}
+use Rattle.codec.specs.Layout.{layout, placesOf, anyOf}
+use Rattle.search.specs.Search as node
+use Rattle.search.specs.Search.{emptySight, sightIn, sightOf, Saw, Sees, fitsPlaces}
+use Rattle.search.proofs.SearchLaws.{sight-good, sight-sees}
 use Rattle.slots.specs.Code.{bytesIn, placesIn, misfits, childrenFit, fitsDepth, placesAt}
 use Rattle.slots.specs.Search.{sightAt, SawAt, SeesAt}
 use Rattle.slots.proofs.CodeLaws.{both-true, no-places}

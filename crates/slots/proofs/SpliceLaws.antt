@@ -17,11 +17,12 @@ use Rattle.word.proofs.NumLaws.{length-le}
 use Rattle.word.proofs.PartLaws.{length-part, length-over, over-in}
 use Rattle.word.proofs.AtLaws.{fits-in, fits-true, length-writeAt, clearAt-in}
 use Rattle.tree.specs.Map.{Sep}
-use Rattle.node.specs.Codec.{Step, longestKey, encode, Fit, Writable}
-use Rattle.node.specs.Splice.{spliced, spliceAt, spliceWidth, Spliced, spliceIn}
-use Rattle.node.proofs.EncodeLaws.{length-sep, scan-finds}
-use Rattle.node.proofs.Theorems.{standard-most, flagged-standard}
-use Rattle.node.proofs.SpliceLaws.{splice-encode, splice-within, splice-place}
+use Rattle.node.specs.Chain.{Step, longestKey, Fit, Writable}
+use Rattle.codec.specs.Codec.{encode}
+use Rattle.codec.specs.Splice.{spliced, spliceAt, spliceWidth, Spliced, spliceIn}
+use Rattle.codec.proofs.EncodeLaws.{length-sep, scan-finds}
+use Rattle.codec.proofs.Theorems.{standard-most, flagged-standard}
+use Rattle.codec.proofs.SpliceLaws.{splice-encode, splice-within, splice-place}
 use Rattle.slots.specs.Limits.{slotSize, leastNode, mostNode}
 use Rattle.slots.specs.Layout.{start}
 use Rattle.slots.specs.Mirror.{isSlot, lengthAt, nodeBytes, holdsNode, writeNode}
@@ -75,7 +76,7 @@ module _ (s : List ℕ) (x p : ℕ) (e : Sep ℕ) (b : ℕ) {f : Bool} (test : f
     length-room : length (part s (at + 4) nodeRoom) ≡ nodeRoom
     length-room = length-part s (at + 4) nodeRoom (omega (arith, insert-room))
 
-    -- what `node::splice` makes of the part that is lent to it
+    -- what `codec::splice` makes of the part that is lent to it
     abbrev made : Spliced
     made = spliceIn (part s (at + 4) nodeRoom) n p e b
 

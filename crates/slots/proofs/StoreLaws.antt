@@ -19,9 +19,10 @@ use Rattle.word.proofs.AtLaws.{readAt-in, readAt-same, writeAt-in, length-write
 use Rattle.tree.specs.Tree.{Node}
 use Rattle.tree.specs.Free.{firstFree}
 use Rattle.tree.proofs.Cases.{by-bool, by-cond}
-use Rattle.node.specs.Codec.{Step, encode, Writable, isAccepted, accepted, decode}
-use Rattle.node.proofs.EncodeLaws.{scan-finds}
-use Rattle.node.proofs.Theorems.{standard-length, standard-most}
+use Rattle.node.specs.Chain.{Step, Writable}
+use Rattle.codec.specs.Codec.{encode, isAccepted, accepted, decode}
+use Rattle.codec.proofs.EncodeLaws.{scan-finds}
+use Rattle.codec.proofs.Theorems.{standard-length, standard-most}
 use Rattle.slots.specs.Limits.{headerSize, slotSize, leastNode, mostNode}
 use Rattle.slots.specs.Layout.{header, used, idle, headOf, start, slotAt, rootOf, depthOf, countOf, firstOf}
 use Rattle.slots.specs.Mirror.{isSlot, lengthAt, nodeBytes, holdsNode, readNode, writeNode, Took, takeSlot, freeSlot, setRoot}

@@ -13,11 +13,12 @@ use Rattle.word.specs.At.{readAt, writeAt}
 use Rattle.tree.specs.Tree.{Node}
 use Rattle.node.specs.declared.Child.{Child}
 use Rattle.node.specs.declared.Node as struct
-use Rattle.node.specs.declared.Places.{Places}
-use Rattle.node.specs.declared.Reading.{Reading}
-use Rattle.node.specs.Codec.{Step, scan, stepOf}
-use Rattle.node.specs.Layout.{childOf, placesOf, readingOf, anyOf, writtenOf, writtenNumber, stepsOf}
-use Rattle.node.specs.Layout as layout
+use Rattle.codec.specs.declared.Places.{Places}
+use Rattle.codec.specs.declared.Reading.{Reading}
+use Rattle.node.specs.Chain as chain
+use Rattle.node.specs.Chain.{Step, childOf, stepsOf}
+use Rattle.codec.specs.Codec.{scan, stepOf}
+use Rattle.codec.specs.Layout.{placesOf, readingOf, anyOf, writtenOf, writtenNumber}
 use Rattle.slots.specs.declared.Formatted.{Formatted}
 use Rattle.slots.specs.declared.Formatted.the-variants.{Done, Refused}
 use Rattle.slots.specs.Limits.{headerSize, slotSize, mostSlots}
@@ -95,7 +96,7 @@ nodeRoom = 2556
 unfoldable pub writtenIn : List ℕ → ℕ → struct.Node → List ℕ
 writtenIn s x n =
     pick (eqb (writtenNumber (writtenOf n (zeros nodeRoom))) 0)
-    (writeNode s (record { slot = x; first = layout.firstOf n; rest = stepsOf n }))
+    (writeNode s (record { slot = x; first = chain.firstOf n; rest = stepsOf n }))
     s
 
 -- ---- the free chain

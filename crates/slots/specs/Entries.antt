@@ -6,7 +6,7 @@ use Prim.Native.Nat.{ℕ, zero, suc}
 use lib.Dec.{eqb}
 use Rattle.tree.specs.Map.{Sep}
 use Rattle.tree.specs.Tree.{Node, Kid, entries}
-use Rattle.node.specs.Codec.{Step}
+use Rattle.node.specs.Chain.{Step}
 use Rattle.slots.specs.Layout.{used, slotAt, rootOf, depthOf}
 use Rattle.slots.specs.Mirror.{readNode}
 

@@ -7,7 +7,8 @@ use lib.Dec.{leb, eqb}
 use Rattle.word.specs.Part.{part}
 use Rattle.word.specs.Num.{le, zeros}
 use Rattle.word.specs.At.{readAt, zeroAt}
-use Rattle.node.specs.Codec.{Step, encode}
+use Rattle.node.specs.Chain.{Step}
+use Rattle.codec.specs.Codec.{encode}
 use Rattle.slots.specs.Limits.{headerSize, slotSize, mostSlots}
 
 -- "root slot u64 (0 none), depth u32, slot count u32 (1 to 65,535), first free slot u32, four zero bytes"

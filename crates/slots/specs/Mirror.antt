@@ -11,7 +11,7 @@ use Rattle.word.specs.Part.{part, over}
 use Rattle.word.specs.Num.{le, zeros}
 use Rattle.word.specs.At.{readAt, writeAt}
 use Rattle.tree.specs.Tree.{Node}
-use Rattle.node.specs.Codec.{encode, decode, Decoded, refused, accepted}
+use Rattle.codec.specs.Codec.{encode, decode, Decoded, refused, accepted}
 use Rattle.slots.specs.Limits.{headerSize, slotSize, leastNode, mostNode}
 use Rattle.slots.specs.Layout.{start, countOf, firstOf}
 

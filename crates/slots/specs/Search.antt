@@ -6,10 +6,10 @@ use mathlib.Core.Bool.{true}
 use Prim.Native.Nat.{ℕ}
 use lib.Dec.{eqb}
 use Rattle.word.specs.Key.{Key}
-use Rattle.node.specs.declared.search.Turn.{Turn}
-use Rattle.node.specs.declared.search.Sight.{Sight}
-use Rattle.node.specs.Codec.{isAccepted}
-use Rattle.node.specs.Search.{sightOf, Sees}
+use Rattle.search.specs.declared.Turn.{Turn}
+use Rattle.search.specs.declared.Sight.{Sight}
+use Rattle.codec.specs.Codec.{isAccepted}
+use Rattle.search.specs.Search.{sightOf, Sees}
 use Rattle.slots.specs.Code.{bytesIn, placesAt}
 
 -- a node at depth 0 is a leaf

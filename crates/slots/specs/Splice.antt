@@ -9,7 +9,7 @@ use Rattle.word.specs.Part.{part, over}
 use Rattle.word.specs.Num.{zeros}
 use Rattle.word.specs.At.{writeAt, clearAt}
 use Rattle.tree.specs.Map.{Sep}
-use Rattle.node.specs.Splice.{Spliced, spliceIn}
+use Rattle.codec.specs.Splice.{Spliced, spliceIn}
 use Rattle.slots.specs.Layout.{start}
 use Rattle.slots.specs.Mirror.{isSlot, lengthAt}
 use Rattle.slots.specs.Code.{nodeRoom}

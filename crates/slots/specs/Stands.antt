@@ -7,7 +7,7 @@ use Rattle.tree.specs.Map.{Sep}
 use Rattle.tree.specs.Tree.{Node, Kid, Tree}
 use Rattle.tree.specs.Free.{firstFree}
 use Rattle.tree.specs.State.{State, AllRight, Store, bare, rooted, GoodStore}
-use Rattle.node.specs.Codec.{Writable}
+use Rattle.node.specs.Chain.{Writable}
 use Rattle.slots.specs.Limits.{headerSize, slotSize, mostSlots}
 use Rattle.slots.specs.Layout.{header, used, idle, headOf, slotAt}
 

@@ -9,14 +9,14 @@ ghost use Rattle.slots.specs.Mirror.{isSlot, takeSlot, freeSlot, setRoot
 ghost use Rattle.slots.specs.Code.{hasSize, slotOf, bytesIn, placesIn, readingIn, misfits, fitsDepth, readingAt, writtenIn, hasFree, linked, formatNumber, Formats};
 ghost use Rattle.slots.specs.Search.{SawAt};
 ghost use Rattle.slots.specs.Splice.{insertedBytes, writtenBytes};
+use codec::Places;
+use codec::Reading;
 use node::Child;
 use node::Node;
-use node::Places;
-use node::Reading;
 use node::Slot;
 use node::Value;
-use node::search::Sight;
-use node::search::Turn;
+use search::Sight;
+use search::Turn;
 
 // 01's store: 24 header bytes, then slots 1 to count of 2,560 bytes each.
 pub const HEADER_SIZE: usize = 24;
@@ -199,7 +199,7 @@ pub fn read_places(store: &[u8], child: Child) -> Places
 pub fn read_node(store: &[u8], child: Child) -> Reading
     ensures { λ r. ⌜ r ≡ readingIn (now (store .entry)) (child .0) ⌝ }
 {
-    node::read(node_bytes(store, child))
+    codec::read(node_bytes(store, child))
 }
 
 // ---- the child test of a depth
@@ -243,7 +243,7 @@ pub fn read_node_at(store: &[u8], child: Child, depth: u32) -> Reading
     let reading = read_node(store, child);
     let children = reading.node.children;
     if !fits_depth(children, reading.node.count, depth) {
-        return node::read(&store[0..0]);
+        return codec::read(&store[0..0]);
     }
     reading
 }
@@ -268,7 +268,7 @@ pub fn search_at(store: &[u8], child: Child, depth: u32, key: &[u8], turn: Turn)
     }
     let from = at + 4;
     let to = from + len;
-    node::search::search(&store[from..to], key, turn, depth == 0)
+    search::search(&store[from..to], key, turn, depth == 0)
 }
 
 // ---- writing, taking and freeing
@@ -283,7 +283,7 @@ pub fn write_node(store: &mut [u8], slot: Slot, node: Node)
     let at = start_of(slot);
     let from = at + 4;
     let to = at + SLOT_SIZE;
-    let written = node::write(node, &mut store[from..to]);
+    let written = codec::write(node, &mut store[from..to]);
     let len = written.length();
     if len == 0 {
         return;
@@ -330,7 +330,7 @@ pub fn insert_bytes(
     let from = at + 4;
     let to = at + SLOT_SIZE;
     let old = word::read_u32(store, at) as usize;
-    let len = node::splice(&mut store[from..to], old, place, key, value, child);
+    let len = codec::splice(&mut store[from..to], old, place, key, value, child);
     if len == 0 {
         return;
     }

@@ -1,6 +1,6 @@
 -- `slots::read_node` meets its contract. Assumes nothing.
 use mathlib.Core.Path.{ap, _∙_}
-use Rattle.node.specs.Layout.{readingOf}
+use Rattle.codec.specs.Layout.{readingOf}
 use Rattle.slots.specs.Code.{readingIn}
 use borrow.Author.Needs.{needs}
 use Rattle.slots.proofs.read_node.Statement.{statement}

@@ -1,6 +1,6 @@
 -- `slots::read_places` meets its contract. Assumes nothing.
 use mathlib.Core.Path.{ap, _∙_}
-use Rattle.node.specs.Layout.{placesOf}
+use Rattle.codec.specs.Layout.{placesOf}
 use Rattle.slots.specs.Code.{placesIn}
 use borrow.Author.Needs.{needs}
 use Rattle.slots.proofs.read_places.Statement.{statement}

@@ -15,14 +15,14 @@ use Rattle.btree.proofs.change.+change+insert+on_existing.Lts-insert as
 use Rattle.btree.proofs.change.on_existing.Reads as on-existing
 use Rattle.btree.proofs.change.on_existing.Kinds as on-existing-kinds
 use Rattle.btree.proofs.change.+change+insert+on_existing.Lts-on_existing as on-existing-lts
-use Rattle.btree.proofs.Came.is_plain.Reads as is-plain-reads
-use Rattle.btree.proofs.Outcome.of.Reads as of-reads
+use Rattle.outcome.proofs.Came.is_plain.Reads as is-plain-reads
+use Rattle.outcome.proofs.Outcome.of.Reads as of-reads
 use Rattle.btree.proofs.change.remove_last.Reads as remove-last-reads
 use Rattle.btree.proofs.change.replace.Reads as replace-reads
 use Rattle.btree.proofs.change.settle.Reads as settle-reads
-use Rattle.btree.proofs.insert.insert_node.Reads as insert-node-reads
-use Rattle.btree.proofs.insert.set_value.Reads as set-value-reads
-use Rattle.btree.proofs.removal.remove_here.Reads as remove-here-reads
+use Rattle.insertion.proofs.insert_node.Reads as insert-node-reads
+use Rattle.insertion.proofs.set_value.Reads as set-value-reads
+use Rattle.removal.proofs.remove_here.Reads as remove-here-reads
 use Rattle.node.proofs.Separator.new.Reads as new-reads
 use Rattle.slots.proofs.search_at.Reads as search-at-reads
 use Rattle.btree.proofs.change.+change+insert+on_existing.{statement}

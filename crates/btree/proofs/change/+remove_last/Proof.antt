@@ -8,10 +8,10 @@ use borrow.Fn.PlainCycle.{Measures, is, falls, and}
 use Rattle.btree.proofs.change.remove_last.Reads as remove-last
 use Rattle.btree.proofs.change.remove_last.Kinds as remove-last-kinds
 use Rattle.btree.proofs.change.+remove_last.Lts-remove_last as remove-last-lts
-use Rattle.btree.proofs.Came.is_plain.Reads as is-plain-reads
-use Rattle.btree.proofs.Outcome.of.Reads as of-reads
+use Rattle.outcome.proofs.Came.is_plain.Reads as is-plain-reads
+use Rattle.outcome.proofs.Outcome.of.Reads as of-reads
 use Rattle.btree.proofs.change.settle.Reads as settle-reads
-use Rattle.btree.proofs.removal.remove_end.Reads as remove-end-reads
+use Rattle.removal.proofs.remove_end.Reads as remove-end-reads
 use Rattle.slots.proofs.search_at.Reads as search-at-reads
 use Rattle.btree.proofs.change.+remove_last.{statement}
 use Rattle.btree.proofs.change.+remove_last.Tie.{close}

@@ -1,6 +1,5 @@
 -- `node::Node::remove_from` meets its contract. Assumes nothing.
 use Rattle.node.proofs.EditCode.{remove-1, remove-2}
-use native.Mathlib.Omega.{arith}
 use borrow.Author.Needs.{needs}
 use Rattle.node.proofs.Node.remove_from.Statement.{statement}
 use Rattle.node.proofs.Node.remove_from.Tie as tie

@@ -1,6 +1,5 @@
 -- `node::Node::shift_from` meets its contract. Assumes nothing.
 use Rattle.node.proofs.EditCode.{shift-1, shift-2}
-use native.Mathlib.Omega.{arith}
 use borrow.Author.Needs.{needs}
 use Rattle.node.proofs.Node.shift_from.Statement.{statement}
 use Rattle.node.proofs.Node.shift_from.Tie as tie

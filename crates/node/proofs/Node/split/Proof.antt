@@ -1,6 +1,5 @@
 -- `node::Node::split` meets its contract. Assumes nothing.
 use Rattle.node.proofs.EditCode.{split-1, split-2, split-3}
-use native.Mathlib.Omega.{arith}
 use borrow.Author.Needs.{needs}
 use Rattle.node.proofs.Node.split.Statement.{statement}
 use Rattle.node.proofs.Node.split.Tie as tie

@@ -1,6 +1,6 @@
 -- `node::edit::close_children` meets its contract. Assumes nothing.
 use mathlib.Core.Path.{refl}
-use Rattle.node.specs.Layout.{childOf}
+use Rattle.node.specs.Chain.{childOf}
 use Rattle.node.proofs.ArrayLaws.{remove-past}
 use Rattle.node.proofs.EditCode.{close-2}
 use borrow.Author.Needs.{needs}

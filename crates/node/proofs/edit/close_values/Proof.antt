@@ -1,6 +1,6 @@
 -- `node::edit::close_values` meets its contract. Assumes nothing.
 use mathlib.Core.Path.{refl}
-use Rattle.node.specs.Layout.{valueOf}
+use Rattle.node.specs.Chain.{valueOf}
 use Rattle.node.proofs.ArrayLaws.{remove-past}
 use Rattle.node.proofs.EditCode.{close-2}
 use borrow.Author.Needs.{needs}

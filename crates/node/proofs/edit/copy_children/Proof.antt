@@ -2,7 +2,7 @@
 use Prim.Native.Nat.{_-_}
 use mathlib.Core.Path.{_≡_, refl}
 use lib.ListN.{length, length-set}
-use Rattle.node.specs.Layout.{childOf}
+use Rattle.node.specs.Chain.{childOf}
 use Rattle.node.specs.EditMirror.{copied}
 use Rattle.node.proofs.EditCode.{CopyLeft, copy-past, copy-short, copy-turn, copy-done}
 use native.Mathlib.Omega.{arith}

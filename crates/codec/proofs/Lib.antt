@@ -1,0 +1,12 @@
+pub mod ByteLaws
+pub mod ScanLaws
+pub mod EncodeLaws
+pub mod LayoutLaws
+pub mod ReadLaws
+pub mod FillLaws
+pub mod Theorems
+pub mod WriteLaws
+pub mod SpliceLaws
+pub mod PositionLaws
+pub mod PositionCode
+pub mod Table

@@ -1,0 +1,5 @@
+pub mod Codec
+pub mod Layout
+pub mod Mirror
+pub mod Splice
+pub mod Position

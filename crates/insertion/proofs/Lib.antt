@@ -1,0 +1,2 @@
+pub mod InsertCode
+pub mod SpliceCode

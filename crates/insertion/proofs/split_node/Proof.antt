@@ -1,0 +1,19 @@
+-- `insertion::split_node` meets its contract. That the child's number is below 2 ^ 64 is what owning it tells (`good`). Assumes nothing.
+use Rattle.insertion.proofs.InsertCode.{split-1, split-2}
+use borrow.Author.Needs.{needs}
+use Rattle.insertion.proofs.split_node.Statement.{statement}
+use Rattle.insertion.proofs.split_node.Tie as tie
+
+pub split-node-spec : {M : Type 1} → statement M
+split-node-spec =
+    tie.close
+    (tie.spec
+    (λ c κs. search needs)  -- split-requires
+    (λ c κs. search needs)  -- take-slot-requires
+    (λ c κs. search needs)  -- of-requires
+    (λ c. search needs)  -- same-length
+    (λ c. split-1 _ _ _ _ _ _ (c .before .before .before .before .before .before .before .split .ensures) ((c .before .before .before .before .before .take-slot .ensures) .0) ((c .before .before .before .before .before .take-slot .ensures) .1) (c .before .if1 .taken) (c .of .ensures))  -- returns
+    (λ c κs. search needs)  -- write-node-requires
+    (λ c κs. search needs)  -- write-node-requires-2
+    (λ c. search needs)  -- same-length-2
+    (λ c. split-2 _ _ _ _ _ _ (c .before .before .before .before .before .before .before .before .before .before .before .before .before .before .before .before .before .split .ensures) ((c .before .before .before .before .before .before .before .before .before .before .before .before .before .before .before .take-slot .ensures) .0) ((c .before .before .before .before .before .before .before .before .before .before .before .before .before .before .before .take-slot .ensures) .1) ((c .before .before .before .before .before .before .before .before .before .before .before .before .before .before .before .before .before .before .before .good) .1 .1 .1 .1 .1 .0 .1 .1 .0 .1) (c .before .before .before .before .before .before .before .before .before .before .before .if1 .left) (c .before .before .before .before .before .before .before .write-node .ensures) (c .before .before .before .write-node2 .ensures)))  -- returns-2

@@ -1,0 +1,3 @@
+pub mod ZipIndex
+pub mod ReadPlaces
+pub mod ReadSight

@@ -1,0 +1,4 @@
+pub mod Mirror
+pub mod RemoveMirror
+pub mod RunMirror
+pub mod Outcome

@@ -1,0 +1,3 @@
+pub mod RemoveCode
+pub mod RebalanceCode
+pub mod OneNodeCode
