@@ -4,13 +4,11 @@ use mathlib.Core.Path.{_≡_, refl, sym, ap, subst, _∙_}
 use mathlib.Core.List.{List, [], _∷_}
 use mathlib.Core.Bool.{Bool, true, false, cond, not}
 use mathlib.Core.Option.{Option, none, some}
-use Prim.Native.Nat.{ℕ, zero, suc, _+_, _-_, _^_, _≤_, _<_}
-use lib.ListN.{length, take}
-use lib.Seq.{take-all}
+use Prim.Native.Nat.{ℕ, zero, suc, _+_, _-_, _≤_, _<_}
+use lib.ListN.{length}
 use native.Mathlib.Omega.{arith}
 use borrow.Author.Tests.{not-true, not-false}
 use Rattle.word.specs.Key.{Key}
-use Rattle.word.specs.Num.{Bytes}
 use Rattle.tree.specs.Map.{Sep}
 use Rattle.tree.specs.Tree.{Node, Zip, at, below, always, plug}
 use Rattle.tree.proofs.Zipper.{seek-plug}
@@ -312,13 +310,11 @@ module _ (d : ℕ) (s : List ℕ) (x : ℕ) (k : Key) {p : Sight} (searched : Sa
       set-leaf zero r t z m n w = rw (m, n) w
       set-leaf (suc d) r t z m n w = absurd (omega arith)
 
-      pub insert-3 : (e : Separator) (r : Outcome) (t : List ℕ) → Bytes k → v < 2 ^ 64 → p .found .at ≡ false → d ≡ 0 → e ≡ separatorOf (record { key = take 288 k; val = v })
-          → ((y : Sep ℕ) → e ≡ separatorOf y → Fit y → Makes (insertNodeM d s x (p .found .index .0) y 0) r t) → Inserts d s x k v r t
+      pub insert-3 : (r : Outcome) (t : List ℕ) → p .found .at ≡ false → d ≡ 0 → (0 < v → length k ≤ longestKey → Makes (insertNodeM 0 s x (p .found .index .0) sep 0) r t) → Inserts d s x k v r t
       unfolding Inserts
-      insert-3 e r t small most miss z made q pos short =
+      insert-3 r t miss z q pos short =
           let n : M.isNext k (zip .rgt) ≡ false = sym found ∙ miss in
-          let whole : take 288 k ≡ k = take-all 288 k short in
-          let w : Makes (insertNodeM d s x (p .found .index .0) sep 0) r t = q sep (made ∙ ap (λ (l : List ℕ). separatorOf (record { key = l; val = v })) whole) (record { bytes = small; short = short; there = pos; small = most }) in
+          let w : Makes (insertNodeM d s x (p .found .index .0) sep 0) r t = subst (λ (m : ℕ). Makes (insertNodeM m s x (p .found .index .0) sep 0) r t) (sym z) (q pos short) in
           set-leaf d r t z there n (subst (λ (j : ℕ). Makes (insertNodeM d s x j sep 0) r t) index w)
 
       set-below : (o r : Outcome) (t u : List ℕ) → p .found .at ≡ false → (d ≡ 0 → ⊥) → Inserts (d - 1) s (p .child .0) k v o t → ((g : M.Came) → o ≡ ofCame g → FitCame g → Makes (settled d x (p .found .index .0) t g) r u) → Inserts d s x k v r u

@@ -1,10 +1,10 @@
 // Change, insert and removal: from a node down to the leaf where the key belongs, and back up with what came of it. On the way
 // down a node is only searched; one is built where it is edited.
+use insertion::insert_leaf;
 use insertion::insert_node;
 use insertion::set_value;
 use node::Child;
 use node::Index;
-use node::Separator;
 use node::Slot;
 use node::Value;
 use outcome::Came;
@@ -105,14 +105,7 @@ fn insert(store: &mut [u8], child: Child, depth: u32, key: &[u8], value: Value) 
         return set_value(store, child, depth, found.index, value);
     }
     if depth == 0 {
-        return insert_node(
-            store,
-            child,
-            depth,
-            found.index,
-            Separator::new(key, value),
-            Child(0),
-        );
+        return insert_leaf(store, child, found.index, key, value);
     }
     let below = change(store, sight.child, depth - 1, true, key, value);
     let came = below.came;

@@ -14,14 +14,14 @@ use Rattle.word.specs.Part.{part, over}
 use Rattle.word.specs.Num.{le}
 use Rattle.word.specs.At.{fitsIn, readAt, writeAt, moveAt}
 use Rattle.word.proofs.NumLaws.{length-le}
-use Rattle.word.proofs.PartLaws.{length-part, length-over, drop-take, over-beside}
+use Rattle.word.proofs.PartLaws.{length-part, length-over, drop-take, over-beside, over-seam}
 use Rattle.word.proofs.AtLaws.{fits-in, fits-true, writeAt-in}
 use Rattle.word.proofs.MoveLaws.{moveAt-in, over-ahead}
 use Rattle.tree.specs.Map.{Sep}
 use Rattle.codec.specs.declared.Head.{Head}
 use Rattle.codec.specs.declared.Head.the-variants.{Separator, Ended}
 use Rattle.node.specs.Chain.{Step, longestKey, padded}
-use Rattle.codec.specs.Codec.{sepLength, restLength, encodeSep, encodeRest, encode, isAccepted, isNoByteLeft, Spot, Scan, keyAt, sizeAt, headAt, follow, scanFrom, settle, scan, stepOf}
+use Rattle.codec.specs.Codec.{sized, sepLength, restLength, encodeSep, encodeRest, encode, isAccepted, isNoByteLeft, Spot, Scan, keyAt, sizeAt, headAt, follow, scanFrom, settle, scan, stepOf}
 use Rattle.codec.specs.Layout.{allPlain, layout, placesOf, placeIn, keyPlace}
 use Rattle.codec.specs.Mirror.{widthAll, widthFirst, putSep}
 use Rattle.codec.specs.Splice.{spliced, spliceAt, spliceWidth, Spliced, spliceIn}
@@ -51,6 +51,31 @@ module _ (c : ℕ) (r : List Step) (i : ℕ) where
       let q : List ℕ = encodeRest (drop i r) in
       encode-append c (take i r) ((e, b) ∷ drop i r)
       ∙ sym (rw (encode-parts, take-at p q (length p) refl, drop-at p q (length p) refl))
+
+-- ---- another value for the separator at an index: the value stands where the separator begins
+
+value-first : (e : Sep ℕ) (b : ℕ) (q : List Step) → encodeRest ((e, b) ∷ q) ≡ le 8 (e .val) ++ (sized (e .key) ++ (le 8 b ++ encodeRest q))
+unfolding encodeRest encodeSep
+value-first e b q = append-assoc (le 8 (e .val)) (sized (e .key)) (le 8 b ++ encodeRest q)
+
+module _ (c : ℕ) (r : List Step) (i : ℕ) (y : Step) (q : List Step) (there : drop i r ≡ y ∷ q) where
+  abbrev behind : List ℕ
+  behind = sized (y .0 .key) ++ (le 8 (y .1) ++ encodeRest q)
+
+  value-there : encode c r ≡ encode c (take i r) ++ (le 8 (y .0 .val) ++ behind)
+  value-there = encode-parts c r i ∙ ap (λ (l : List ℕ). encode c (take i r) ++ l) (ap encodeRest there ∙ value-first (y .0) (y .1) q)
+
+  pub revalue-within : length (encode c (take i r)) + 8 ≤ length (encode c r)
+  revalue-within =
+      let l : length (encode c r) ≡ length (encode c (take i r)) + (8 + length behind) = ap length value-there ∙ length-append (encode c (take i r)) (le 8 (y .0 .val) ++ behind) ∙ ap (λ (n : ℕ). length (encode c (take i r)) + n) (length-append (le 8 (y .0 .val)) behind ∙ ap (λ (n : ℕ). n + length behind) (length-le 8 (y .0 .val))) in
+      omega arith
+
+  pub revalue-encode : (e : Sep ℕ) → e .key ≡ y .0 .key → encode c (take i r ++ ((e, y .1) ∷ q)) ≡ over (encode c r) (length (encode c (take i r))) (le 8 (e .val))
+  revalue-encode e same =
+      let p : List ℕ = encode c (take i r) in
+      encode-append c (take i r) ((e, y .1) ∷ q) ∙ ap (λ (l : List ℕ). p ++ l) (value-first e (y .1) q ∙ ap (λ (k : List ℕ). le 8 (e .val) ++ (sized k ++ (le 8 (y .1) ++ encodeRest q))) same)
+      ∙ sym (over-seam p (le 8 (y .0 .val)) (le 8 (e .val)) behind (length p) refl (length-le 8 (y .0 .val) ∙ sym (length-le 8 (e .val))))
+      ∙ ap (λ (l : List ℕ). over l (length p) (le 8 (e .val))) (sym value-there)
 
 -- ---- the place, by the lengths of the keys
 

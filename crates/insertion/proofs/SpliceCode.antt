@@ -5,7 +5,7 @@ use mathlib.Core.List.{List, [], _∷_, _++_, append-assoc}
 use mathlib.Core.Bool.{Bool, true, false, _&&_, not}
 use Prim.Native.Nat.{ℕ, zero, suc, _+_, _-_, _^_, _≤_, _<_}
 use lib.ListN.{length, take, drop, getD, replicate, length-take, length-append, length-replicate, take-append-drop}
-use lib.Seq.{take-all}
+use lib.Seq.{take-all, drop-cons}
 use lib.Dec.{leb, ltb, eqb}
 use native.Mathlib.Omega.{arith}
 use borrow.Author.Tests.{not-true, not-false, le-leb, lt-leb, leb-true, ltb-false, le-ltb, eq-eqb, ne-eqb}
@@ -23,7 +23,7 @@ use Rattle.node.specs.declared.Node as struct
 use Rattle.codec.specs.declared.Places.{Places}
 use Rattle.node.specs.declared.Separator.{Separator}
 use Rattle.node.specs.declared.Value.{Value}
-use Rattle.node.specs.Chain.{Step, longestKey, Fit, FitAll, Writable, padded, valueOf}
+use Rattle.node.specs.Chain.{Step, longestKey, Fit, FitAll, Writable, padded, valueOf, childOf}
 use Rattle.codec.specs.Codec.{encodeSep, encode, isAccepted, isNoByteLeft, scan}
 use Rattle.codec.specs.Layout.{allPlain, layout, placesOf}
 use Rattle.node.specs.Edit.{separatorOf, inserted, insertAt, stepAt}
@@ -32,21 +32,21 @@ use Rattle.node.proofs.ArrayLaws.{take-own}
 use Rattle.codec.proofs.ReadLaws.{count-few, ends-within}
 use Rattle.codec.proofs.EncodeLaws.{sep-most}
 use Rattle.codec.proofs.SpliceLaws.{splice-within}
-use Rattle.node.proofs.EditLaws.{length-more, fit-insert}
+use Rattle.node.proofs.EditLaws.{length-more, fit-drop, fit-insert}
 use Rattle.slots.specs.Limits.{leastNode, mostNode}
 use Rattle.slots.specs.Layout.{start}
 use Rattle.slots.specs.Mirror.{isSlot, lengthAt, nodeBytes, holdsNode, writeNode, takeSlot}
-use Rattle.slots.specs.Code.{slotOf, bytesIn, placesIn, readingIn, firstIn, restIn, nodeIn, fitsDepth, placesAt}
-use Rattle.slots.specs.Splice.{insertedBytes, writtenBytes}
+use Rattle.slots.specs.Code.{slotOf, bytesIn, placesIn, readingIn, firstIn, restIn, nodeIn, fitsDepth, placesAt, readNodeAt}
+use Rattle.slots.specs.Splice.{insertedBytes, revaluedBytes, writtenBytes}
 use Rattle.slots.proofs.CodeLaws.{both-true, AcceptedAt, node-in, agree-in, writable-in, accepted-holds, accepted-slot, accepted-at, ending-at}
-use Rattle.slots.proofs.SpliceLaws.{length-spliced, splice-keeps, standard-is, place-is, longer-is, inserts-node}
+use Rattle.slots.proofs.SpliceLaws.{length-spliced, splice-keeps, standard-is, place-is, longer-is, inserts-node, revalues-node}
 use Rattle.slots.proofs.BytesLaws.{writes-bytes}
 use Rattle.slots.proofs.NineLaws.{cut-encode, reads-to, reads-key, reads-value, reads-next}
 use Rattle.outcome.specs.declared.Came.the-variants.{Bad, Plain, Split}
 use Rattle.outcome.specs.declared.Outcome.{Outcome}
-use Rattle.outcome.specs.Mirror.{inTwo, placeM, insertedAt, insertNodeM}
-use Rattle.outcome.specs.Outcome.{outcomeWith, outcomeOf, Makes}
-use Rattle.insertion.specs.Short.{goesShort, mostNine, EndWithin, SplitsShort}
+use Rattle.outcome.specs.Mirror.{inTwo, placeM, insertedAt, insertNodeM, setValueM}
+use Rattle.outcome.specs.Outcome.{outcomeWith, noSep, outcomeOf, Makes}
+use Rattle.insertion.specs.Short.{goesShort, mostNine, EndWithin, SplitsShort, PutsShort}
 use Rattle.outcome.proofs.ReadPlaces.{count-of}
 use Rattle.insertion.proofs.InsertCode.{placed, left-writable, fit-right, right-writable}
 
@@ -327,6 +327,27 @@ module _ (s : List ℕ) (x place : ℕ) (e : Sep ℕ) (right : Child) (d0 : List
               let mid = middle-is small bs i plain full within begins fit m in
               rw (placed-is small bs i plain full within begins fit, z) (rw (mid, took) refl, second ∙ rw first, fits-all small bs i plain full within begins fit .0)
 
+-- ---- `insert_short`
+
+module _ (s : List ℕ) (x n place : ℕ) (e : Sep ℕ) (right : Child) where
+  pub put-1 : {r : Outcome} {t : List ℕ} → 7 < n → SplitsShort s x place e (right .0) r t → PutsShort s x n place e (right .0) r t
+  put-1 full split i plain count within begins fit = split i plain (omega arith) within begins fit
+
+  pub put-2 : {v : ℕ} {r : Outcome} {t : List ℕ} → Bytes s → right .0 < 2 ^ 64 → n ≤ 7 → v ≡ slotOf s x → t ≡ insertedBytes s v place e (right .0) → r ≡ outcomeOf Plain → PutsShort s x n place e (right .0) r t
+  unfolding placeM inserted
+  put-2 {v} {r} {t} small bs few slot wrote out i plain count within begins fit =
+      let w = writable-in s x small in
+      let q : List Step = restIn s x in
+      let c : ℕ = firstIn s x in
+      let accepted = reads-in s x plain in
+      let more = length-more q i (e, right .0) (omega (arith, count-in s x)) in
+      let fine : Writable c (insertAt i (e, right .0) q) = record { first = w .first; rest = fit-insert i (e, right .0) q fit bs (w .rest); most = omega (arith, count-in s x) } in
+      let z : leb (length (insertAt i (e, right .0) q)) 8 ≡ true = le-leb (length (insertAt i (e, right .0) q)) 8 (omega (arith, count-in s x)) in
+      let node = inserts-node s x i e (right .0) small (accepted-holds s x accepted) plain within fit fine in
+      let written : t ≡ writeNode s (insertedAt i e (right .0) (nodeIn s x)) =
+      wrote ∙ ap (λ (y : ℕ). insertedBytes s y place e (right .0)) (slot ∙ accepted-slot s x accepted .1) ∙ ap (λ (y : ℕ). insertedBytes s x y e (right .0)) begins ∙ node in
+      rw z (out, written, tt)
+
 -- ---- `insert_node`
 
 module _ (s : List ℕ) (x d i : ℕ) (sep : Separator) (right : Child) where
@@ -364,26 +385,62 @@ module _ (s : List ℕ) (x d i : ℕ) (sep : Separator) (right : Child) where
       at : place ≡ spliceAt (placesIn s x) i
       at = begins ∙ ap (λ (q : Places). spliceAt q i) read
 
-      pub insert-split : {r : Outcome} {t : List ℕ} → 7 < p .count → SplitsShort s x place (sepFrom (take (sep .len - 0) (drop 0 (sep .key))) (sep .value .0)) (right .0) r t → InsertsTo r t
+      pub insert-by : {r : Outcome} {t : List ℕ} → PutsShort s x (p .count) place (sepFrom (take (sep .len - 0) (drop 0 (sep .key))) (sep .value .0)) (right .0) r t → InsertsTo r t
       unfolding insertNodeM
-      insert-split {r} {t} full split e k f =
-          let splits : SplitsShort s x place e (right .0) r t = subst (λ (y : Sep ℕ). SplitsShort s x place y (right .0) r t) (own-key sep e k) split in
-          rw (stands .found, has-index) (splits i standard (subst (λ (q : Places). 7 < q .count) read full) has-place at f)
+      insert-by {r} {t} put e k f =
+          let puts : PutsShort s x (p .count) place e (right .0) r t = subst (λ (y : Sep ℕ). PutsShort s x (p .count) place y (right .0) r t) (own-key sep e k) put in
+          rw (stands .found, has-index) (puts i standard (ap (λ (q : Places). q .count) read) has-place at f)
 
-      pub insert-put : {v : ℕ} {r : Outcome} {t : List ℕ} → Bytes s → right .0 < 2 ^ 64 → p .count ≤ 7 → v ≡ slotOf s x
-          → t ≡ insertedBytes s v place (sepFrom (take (sep .len - 0) (drop 0 (sep .key))) (sep .value .0)) (right .0) → r ≡ outcomeOf Plain → InsertsTo r t
-      unfolding insertNodeM placeM inserted
-      insert-put {v} {r} {t} small bs few slot wrote out e k f =
-          let w = writable-in s x small in
-          let q : List Step = restIn s x in
-          let c : ℕ = firstIn s x in
-          let accepted = reads-in s x standard in
-          let n : p .count ≡ length q = ap (λ (y : Places). y .count) read ∙ count-in s x in
-          let more = length-more q i (e, right .0) (omega (arith, has-place, count-in s x)) in
-          let fine : Writable c (insertAt i (e, right .0) q) = record { first = w .first; rest = fit-insert i (e, right .0) q f bs (w .rest); most = omega arith } in
-          let z : leb (length (insertAt i (e, right .0) q)) 8 ≡ true = le-leb (length (insertAt i (e, right .0) q)) 8 (omega arith) in
-          let node = inserts-node s x i e (right .0) small (accepted-holds s x accepted) standard has-place f fine in
-          let written : t ≡ writeNode s (insertedAt i e (right .0) (nodeIn s x)) =
-          wrote ∙ ap (λ (y : ℕ). insertedBytes s y place (sepFrom (take (sep .len - 0) (drop 0 (sep .key))) (sep .value .0)) (right .0)) (slot ∙ accepted-slot s x accepted .1)
-          ∙ ap (λ (y : Sep ℕ). insertedBytes s x place y (right .0)) (own-key sep e k) ∙ ap (λ (y : ℕ). insertedBytes s x y e (right .0)) at ∙ node in
-          rw (stands .found, has-index, z) (out, written, tt)
+-- ---- `insert_leaf`
+
+module _ (s : List ℕ) (x i : ℕ) (k : List ℕ) (v : Value) where
+  abbrev LeafTo : Outcome → List ℕ → Type 0
+  LeafTo r t = 0 < v .0 → length k ≤ longestKey → Makes (insertNodeM 0 s x i (sepFrom k (v .0)) 0) r t
+
+  fits-leaf : Bytes k → v .0 < 2 ^ 64 → 0 < v .0 → length k ≤ longestKey → Fit (sepFrom k (v .0))
+  fits-leaf small most pos short = record { bytes = small; short = short; there = pos; small = most }
+
+  pub leaf-1 : {e : Separator} {r : Outcome} {t : List ℕ} → Bytes k → v .0 < 2 ^ 64 → e ≡ separatorOf (record { key = take 288 k; val = v .0 })
+      → ((y : Sep ℕ) → e ≡ separatorOf y → Fit y → Makes (insertNodeM 0 s x i y 0) r t) → LeafTo r t
+  leaf-1 small most made q pos short =
+      q (sepFrom k (v .0)) (made ∙ ap (λ (l : List ℕ). separatorOf (sepFrom l (v .0))) (take-all 288 k short)) (fits-leaf small most pos short)
+
+  module _ {p : Places} {b : Bool} (read : p ≡ placesIn s x) (test : b ≡ goesShort p 0 i (length k)) (short : not b ≡ false) where
+    abbrev own : Separator
+    own = separatorOf (sepFrom k (v .0))
+
+    pub leaf-place : (i ≤ 8) × EndWithin p
+    leaf-place = short-place s x 0 i own (childOf 0) read test short
+
+    pub leaf-2 : {place : ℕ} {r : Outcome} {t : List ℕ} → Bytes k → v .0 < 2 ^ 64 → place ≡ spliceAt p i → PutsShort s x (p .count) place (sepFrom k (v .0)) 0 r t → LeafTo r t
+    leaf-2 {place} {r} {t} small most begins put pos few =
+        insert-by s x 0 i own (childOf 0) read test short begins (subst (λ (y : Sep ℕ). PutsShort s x (p .count) place y 0 r t) (sym (own-key own (sepFrom k (v .0)) refl)) put) (sepFrom k (v .0)) refl (fits-leaf small most pos few)
+
+-- ---- `set_value`
+
+step-there : (j : ℕ) (l : List Step) → j < length l → drop j l ≡ stepAt j l ∷ drop (suc j) l
+unfolding stepAt
+step-there j l h = drop-cons l j _ h
+
+module _ (s : List ℕ) (x d i : ℕ) (value : Value) {p : Places} {b : Bool} (read : p ≡ placesIn s x) (test : b ≡ goesShort p d i 0) (short : not b ≡ false) where
+  pub value-place : (i ≤ 8) × EndWithin p
+  value-place = short-place s x d i (separatorOf noSep) (childOf 0) read test short
+
+  pub value-put : {place v : ℕ} {r : Outcome} {t : List ℕ} → place ≡ spliceAt p i → i < p .count → Bytes s → value .0 < 2 ^ 64 → v ≡ slotOf s x → t ≡ revaluedBytes s v place (value .0) → r ≡ outcomeOf Plain
+      → 0 < value .0 → Makes (setValueM i (value .0) x s (readNodeAt d s x)) r t
+  value-put {place} {v} {r} {t} begins l small vs slot wrote out k =
+      let plain = standard s x d i (separatorOf noSep) (childOf 0) read test short in
+      let accepted = reads-in s x plain in
+      let within = has-place s x d i (separatorOf noSep) (childOf 0) read test short in
+      let found = stands s x d i (separatorOf noSep) (childOf 0) read test short .found in
+      let q : List Step = restIn s x in
+      let n : p .count ≡ length q = ap (λ (y : Places). y .count) read ∙ count-in s x in
+      let y : Step = stepAt i q in
+      let there : drop i q ≡ y ∷ drop (suc i) q = step-there i q (omega arith) in
+      let fits : FitAll (y ∷ drop (suc i) q) = subst FitAll there (fit-drop i q (writable-in s x small .rest)) in
+      let e : Sep ℕ = record { key = y .0 .key; val = value .0 } in
+      let fit : Fit e = record { bytes = fits .0 .bytes; short = fits .0 .short; there = k; small = vs } in
+      let node = revalues-node s x i e (y .1) small (accepted-holds s x accepted) plain within fit y (drop (suc i) q) there refl in
+      let written : t ≡ writeNode s (record { slot = x; first = firstIn s x; rest = take i q ++ ((e, y .1) ∷ drop (suc i) q) }) =
+      wrote ∙ ap (λ (z : ℕ). revaluedBytes s z place (value .0)) (slot ∙ accepted-slot s x accepted .1) ∙ ap (λ (z : ℕ). revaluedBytes s x z (value .0)) (begins ∙ ap (λ (z : Places). spliceAt z i) read) ∙ node in
+      rw (found, there) (out, written, tt)

@@ -1,4 +1,4 @@
--- A separator put into a node among the node's bytes: where that is done, and what a split by bytes promises. Assumes nothing.
+-- A separator put into a node among the node's bytes: where that is done, and what is promised of it, split or not. Assumes nothing.
 use mathlib.Core.Path.{_≡_}
 use mathlib.Core.List.{List}
 use mathlib.Core.Bool.{Bool, true, _&&_}
@@ -30,4 +30,10 @@ EndWithin p = (j : ℕ) → getD (p .starts) j 0 + getD (p .lens) j 0 ≤ mostNi
 abbrev pub SplitsShort : List ℕ → ℕ → ℕ → Sep ℕ → ℕ → Outcome → List ℕ → Type 0
 SplitsShort s x place e b r t =
     (i : ℕ) → placesIn s x .standard ≡ true → 7 < placesIn s x .count → i ≤ placesIn s x .count → place ≡ spliceAt (placesIn s x) i → Fit e
+    → Makes (placeM s (insertedAt i e b (nodeIn s x))) r t
+
+-- the same of a node that is full or not, with n separators
+abbrev pub PutsShort : List ℕ → ℕ → ℕ → ℕ → Sep ℕ → ℕ → Outcome → List ℕ → Type 0
+PutsShort s x n place e b r t =
+    (i : ℕ) → placesIn s x .standard ≡ true → n ≡ placesIn s x .count → i ≤ placesIn s x .count → place ≡ spliceAt (placesIn s x) i → Fit e
     → Makes (placeM s (insertedAt i e b (nodeIn s x))) r t

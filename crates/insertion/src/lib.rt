@@ -15,7 +15,7 @@ ghost use mathlib.Core.List.{List};
 ghost use Prim.Native.Nat.{ℕ, _≤_, _<_};
 ghost use lib.ListN.{length};
 ghost use Rattle.tree.specs.Map.{Sep};
-ghost use Rattle.node.specs.Chain.{Step, Fit, Writable, nodeOf};
+ghost use Rattle.node.specs.Chain.{Step, longestKey, Fit, Writable, nodeOf};
 ghost use Rattle.node.specs.Edit.{separatorOf};
 ghost use Rattle.codec.specs.Splice.{spliceAt};
 ghost use Rattle.slots.specs.Limits.{mostDepth};
@@ -25,7 +25,7 @@ ghost use Rattle.outcome.specs.Mirror as M;
 ghost use Rattle.outcome.specs.Mirror.{insertedAt, placeM, insertNodeM, setValueM, growM};
 ghost use Rattle.outcome.specs.RunMirror.{startM, slotsNeededM};
 ghost use Rattle.outcome.specs.Outcome.{ofCame, ofNeed, FitCame, Makes};
-ghost use Rattle.insertion.specs.Short.{goesShort, EndWithin, SplitsShort};
+ghost use Rattle.insertion.specs.Short.{goesShort, EndWithin, SplitsShort, PutsShort};
 
 // ---- a separator taken in by the node above
 
@@ -126,6 +126,26 @@ fn split_short(
     }
 }
 
+// A separator and the child right of it put in at a place of the bytes of a node with so many separators.
+fn insert_short(
+    store: &mut [u8],
+    child: Child,
+    count: usize,
+    place: usize,
+    key: &[u8],
+    value: Value,
+    right: Child,
+) -> Outcome
+    ensures { λ r. ⌜ PutsShort (now (store .entry)) (child .0) count place (record { key = now (key .entry); val = value .0 }) (right .0) r (now (store .exit)) ⌝ }
+{
+    if 7 < count {
+        return split_short(store, child, place, key, value, right);
+    }
+    let slot = slots::slot_of(store, child);
+    slots::insert_bytes(store, slot, place, key, value, right);
+    Outcome::of(Came::Plain)
+}
+
 // ---- a separator and the child right of it at an index of the node in a slot
 
 // The node is read anew: what was called below it has written meanwhile.
@@ -175,16 +195,31 @@ pub fn insert_node(
     let place = place_of(places, i);
     let key = sep.key;
     let value = sep.value;
-    if 7 < places.count {
-        return split_short(store, child, place, &key[0..len], value, right);
-    }
-    let slot = slots::slot_of(store, child);
-    slots::insert_bytes(store, slot, place, &key[0..len], value, right);
-    Outcome::of(Came::Plain)
+    insert_short(
+        store,
+        child,
+        places.count,
+        place,
+        &key[0..len],
+        value,
+        right,
+    )
 }
 
-// "value replaced"
-pub fn set_value(store: &mut [u8], child: Child, depth: u32, i: Index, value: Value) -> Outcome
+// The same in a leaf, for a key that is lent: no separator is made of it where it goes in among the bytes.
+pub fn insert_leaf(store: &mut [u8], child: Child, i: Index, key: &[u8], value: Value) -> Outcome
+    ensures { λ r. ⌜ ((0 < value .0) → length (now (key .entry)) ≤ longestKey → Makes (insertNodeM 0 (now (store .entry)) (child .0) (i .0) (record { key = now (key .entry); val = value .0 }) 0) r (now (store .exit))) ⌝ }
+{
+    let places = slots::read_places(store, child);
+    if !goes_short(places, 0, i, key.len()) {
+        return insert_long(store, child, 0, i, Separator::new(key, value), Child(0));
+    }
+    let place = place_of(places, i);
+    insert_short(store, child, places.count, place, key, value, Child(0))
+}
+
+// Another value at index i of a node that is read and written.
+fn set_long(store: &mut [u8], child: Child, depth: u32, i: Index, value: Value) -> Outcome
     ensures { λ r. ⌜ ((0 < value .0) → Makes (setValueM (i .0) (value .0) (child .0) (now (store .entry)) (readNodeAt depth (now (store .entry)) (child .0))) r (now (store .exit))) ⌝ }
 {
     let reading = slots::read_node_at(store, child, depth);
@@ -199,6 +234,23 @@ pub fn set_value(store: &mut [u8], child: Child, depth: u32, i: Index, value: Va
         return Outcome::of(Came::Plain);
     }
     slots::write_node(store, slot, node.set_value(i, value));
+    Outcome::of(Came::Plain)
+}
+
+// "value replaced": among the node's bytes where they are in standard form.
+pub fn set_value(store: &mut [u8], child: Child, depth: u32, i: Index, value: Value) -> Outcome
+    ensures { λ r. ⌜ ((0 < value .0) → Makes (setValueM (i .0) (value .0) (child .0) (now (store .entry)) (readNodeAt depth (now (store .entry)) (child .0))) r (now (store .exit))) ⌝ }
+{
+    let places = slots::read_places(store, child);
+    if places.count <= i.0 {
+        return set_long(store, child, depth, i, value);
+    }
+    if !goes_short(places, depth, i, 0) {
+        return set_long(store, child, depth, i, value);
+    }
+    let place = place_of(places, i);
+    let slot = slots::slot_of(store, child);
+    slots::write_value(store, slot, place, value);
     Outcome::of(Came::Plain)
 }
 

@@ -1,33 +1,34 @@
--- A separator put in among the bytes of the node in a slot: each way through `insert_bytes`, and that it writes the longer
--- node where the bytes are in standard form. Assumes nothing.
+-- A separator put in among the bytes of the node in a slot, or given another value there: each way through `insert_bytes` and
+-- `write_value`, and that they write the longer node, or the one with that value, where the bytes are in standard form. Assumes
+-- nothing.
 use mathlib.Core.Path.{_≡_, refl, sym, ap, _∙_}
 use mathlib.Core.List.{List, _∷_, _++_}
 use mathlib.Core.Bool.{Bool, true, false, _&&_, not}
-use Prim.Native.Nat.{ℕ, _+_, _-_, _≤_}
+use Prim.Native.Nat.{ℕ, _+_, _-_, _≤_, _<_}
 use lib.ListN.{length, take, drop, length-append, length-drop}
 use lib.Seq.{take-take, length-take-le}
 use lib.Dec.{leb, ltb, eqb}
 use native.Mathlib.Omega.{arith}
-use borrow.Author.Tests.{not-true, not-false, leb-true, ltb-false, le-ltb, eq-eqb, ne-eqb}
-use Rattle.word.specs.Pick.{pickT, pickF, by-test}
+use borrow.Author.Tests.{not-true, not-false, leb-true, ltb-false, lt-ltb, le-ltb, eq-eqb, ne-eqb}
+use Rattle.word.specs.Pick.{pick, pickT, pickF, by-test}
 use Rattle.word.specs.Part.{part, over}
-use Rattle.word.specs.Num.{Bytes}
+use Rattle.word.specs.Num.{le, un, zeros, Bytes}
 use Rattle.word.specs.At.{fitsIn, readAt, writeAt, clearAt}
-use Rattle.word.proofs.NumLaws.{length-le}
-use Rattle.word.proofs.PartLaws.{length-part, length-over, over-in}
-use Rattle.word.proofs.AtLaws.{fits-in, fits-true, length-writeAt, clearAt-in}
+use Rattle.word.proofs.NumLaws.{length-le, le-un, bytes-part}
+use Rattle.word.proofs.PartLaws.{length-part, length-over, part-before, over-part, over-in}
+use Rattle.word.proofs.AtLaws.{fits-in, fits-true, readAt-in, writeAt-in, length-writeAt, clearAt-in}
 use Rattle.tree.specs.Map.{Sep}
 use Rattle.node.specs.Chain.{Step, longestKey, Fit, Writable}
 use Rattle.codec.specs.Codec.{encode}
 use Rattle.codec.specs.Splice.{spliced, spliceAt, spliceWidth, Spliced, spliceIn}
 use Rattle.codec.proofs.EncodeLaws.{length-sep, scan-finds}
 use Rattle.codec.proofs.Theorems.{standard-most, flagged-standard}
-use Rattle.codec.proofs.SpliceLaws.{splice-encode, splice-within, splice-place}
+use Rattle.codec.proofs.SpliceLaws.{splice-encode, splice-within, splice-place, revalue-within, revalue-encode}
 use Rattle.slots.specs.Limits.{slotSize, leastNode, mostNode}
 use Rattle.slots.specs.Layout.{start}
 use Rattle.slots.specs.Mirror.{isSlot, lengthAt, nodeBytes, holdsNode, writeNode}
 use Rattle.slots.specs.Code.{bytesIn, placesIn, firstIn, restIn, nodeRoom}
-use Rattle.slots.specs.Splice.{laid, insertedBytes}
+use Rattle.slots.specs.Splice.{laid, insertedBytes, revaluedBytes}
 use Rattle.slots.proofs.CodeLaws.{both-true, whole, given-back, bytes-small}
 
 -- ---- lengths
@@ -117,6 +118,30 @@ module _ (s : List ℕ) (x p : ℕ) (e : Sep ℕ) (b : ℕ) {f : Bool} (test : f
             ∙ ap (λ (m : ℕ). clearAt (writeAt 4 (over s (at + 4) (made .bytes)) at m) (at + 4 + m) (nodeRoom - m)) len-is
             ∙ sym (inserted-is ∙ pickF _ _ (ne-eqb (made .len) 0 (λ y. z (len-is ∙ y))))
 
+-- ---- each way through `write_value`
+
+module _ (s : List ℕ) (x p v : ℕ) {f : Bool} (test : f ≡ isSlot s x) where
+  pub write-value-1 : not f ≡ true → s ≡ revaluedBytes s x p v
+  unfolding revaluedBytes
+  write-value-1 h = sym (pickF _ _ (sym test ∙ not-true f h))
+
+  module _ (h : not f ≡ false) {at n : ℕ} (begins : at ≡ start x) (says : n ≡ readAt 4 s at) where
+    revalued-is : revaluedBytes s x p v ≡ pick (ltb nodeRoom n) s (pick (fitsIn n p 8) (clearAt (writeAt 8 s (at + 4 + p) v) (at + 4 + n) (nodeRoom - n)) s)
+    unfolding revaluedBytes lengthAt
+    revalued-is = pickT _ _ (sym test ∙ not-false f h) ∙ rw (says, begins)
+
+    pub write-value-2 : nodeRoom < n → s ≡ revaluedBytes s x p v
+    write-value-2 l = sym (revalued-is ∙ pickT _ _ (lt-ltb nodeRoom n l))
+
+    module _ (l : n ≤ nodeRoom) {g : Bool} (fits : g ≡ fitsIn n p 8) where
+      pub write-value-3 : not g ≡ true → s ≡ revaluedBytes s x p v
+      write-value-3 k = sym (revalued-is ∙ pickF _ _ (le-ltb nodeRoom n l) ∙ pickF _ _ (sym fits ∙ not-true g k))
+
+      pub write-value-4 : not g ≡ false → {u w : List ℕ} → u ≡ writeAt 8 s (at + 4 + p) v → w ≡ clearAt u (at + 4 + n) (nodeRoom - n) → w ≡ revaluedBytes s x p v
+      write-value-4 k i j =
+          j ∙ ap (λ (t : List ℕ). clearAt t (at + 4 + n) (nodeRoom - n)) i
+          ∙ sym (revalued-is ∙ pickF _ _ (le-ltb nodeRoom n l) ∙ pickT _ _ (sym fits ∙ not-false g k))
+
 -- ---- the longer node is written
 
 module _ (s : List ℕ) (x i : ℕ) (e : Sep ℕ) (b : ℕ) (small : Bytes s) (held : holdsNode s x ≡ true) (plain : placesIn s x .standard ≡ true) (within : i ≤ placesIn s x .count) (fit : Fit e) where
@@ -202,3 +227,59 @@ module _ (s : List ℕ) (x i : ℕ) (e : Sep ℕ) (b : ℕ) (small : Bytes s) (h
       where
         sep-some : 8 ≤ spliceWidth e
         sep-some = omega arith
+
+  -- ---- the node whose separator at the index has another value, that of e
+
+  module _ (y : Step) (q : List Step) (there : drop i (restIn s x) ≡ y ∷ q) (same : e .key ≡ y .0 .key) where
+    abbrev pub again : List Step
+    again = take i (restIn s x) ++ ((e, y .1) ∷ q)
+
+    again-is : encode (firstIn s x) again ≡ over (bytesIn s x) place (le 8 (e .val))
+    again-is =
+        revalue-encode (firstIn s x) (restIn s x) i y q there e same
+        ∙ ap (λ (t : List ℕ). over t (length (encode (firstIn s x) (take i (restIn s x)))) (le 8 (e .val))) (sym standard-is)
+        ∙ ap (λ (m : ℕ). over (bytesIn s x) m (le 8 (e .val))) (sym place-is)
+
+    value-within : place + 8 ≤ lengthAt s x
+    value-within = omega (arith, place-is, revalue-within (firstIn s x) (restIn s x) i y q there, ap length standard-is, sits .size)
+
+    again-length : length (encode (firstIn s x) again) ≡ lengthAt s x
+    again-length = ap length again-is ∙ length-over (bytesIn s x) place (le 8 (e .val)) (omega (arith, value-within, sits .size, length-le 8 (e .val))) ∙ sits .size
+
+    abbrev valued : List ℕ
+    valued = over s (start x + 4 + place) (le 8 (e .val))
+
+    -- the length stays, so writing it again changes nothing
+    keeps-length : writeAt 4 valued (start x) (lengthAt s x) ≡ valued
+    unfolding lengthAt
+    keeps-length =
+        let a : ℕ = start x in
+        let r = sits .room in
+        let w = value-within in
+        let m = sits .most in
+        let l : length valued ≡ length s = length-over s (a + 4 + place) (le 8 (e .val)) (omega (arith, length-le 8 (e .val))) in
+        let b : part valued a 4 ≡ part s a 4 = part-before s (a + 4 + place) a 4 (le 8 (e .val)) (omega arith) (omega arith) in
+        let k : length (part s a 4) ≡ 4 = length-part s a 4 (omega arith) in
+        let g : le 4 (readAt 4 s a) ≡ part s a 4 = ap (le 4) (readAt-in 4 s a (omega arith)) ∙ ap (λ (n : ℕ). le n (un (part s a 4))) (sym k) ∙ le-un (part s a 4) (bytes-part s a 4 small) in
+        writeAt-in 4 valued a (readAt 4 s a) (omega arith) ∙ ap (over valued a) (g ∙ sym b) ∙ over-part valued a 4 (omega arith)
+
+    pub revalues-node : revaluedBytes s x place (e .val) ≡ writeNode s (record { slot = x; first = firstIn s x; rest = again })
+    unfolding revaluedBytes writeNode nodeBytes
+    revalues-node =
+        let c : List ℕ = encode (firstIn s x) again in
+        let a : ℕ = start x in
+        let n : ℕ = lengthAt s x in
+        let v : ℕ = e .val in
+        let r = sits .room in
+        let m = sits .most in
+        let w = value-within in
+        let o : over s (a + 4) c ≡ valued = ap (over s (a + 4)) (again-is ∙ ap (λ (t : List ℕ). over t place (le 8 v)) bytes-are) ∙ sym (over-in s (a + 4) place n (le 8 v) (omega arith) (omega (arith, length-le 8 v))) in
+        let l : length valued ≡ length s = length-over s (a + 4 + place) (le 8 v) (omega (arith, length-le 8 v)) in
+        let done : over (writeAt 4 (over s (a + 4) c) a (length c)) (a + 4 + length c) (zeros (nodeRoom - length c)) ≡ over valued (a + 4 + n) (zeros (nodeRoom - n)) =
+        ap (λ (t : List ℕ). over (writeAt 4 t a (length c)) (a + 4 + length c) (zeros (nodeRoom - length c))) o
+        ∙ ap (λ (k : ℕ). over (writeAt 4 valued a k) (a + 4 + k) (zeros (nodeRoom - k))) again-length
+        ∙ ap (λ (t : List ℕ). over t (a + 4 + n) (zeros (nodeRoom - n))) keeps-length in
+        pickT _ _ (sits .slot) ∙ pickF _ _ (le-ltb nodeRoom n (omega arith)) ∙ pickT _ _ (fits-in n place 8 w)
+        ∙ ap (λ (t : List ℕ). clearAt t (a + 4 + n) (nodeRoom - n)) (writeAt-in 8 s (a + 4 + place) v (omega arith))
+        ∙ clearAt-in valued (a + 4 + n) (nodeRoom - n) (omega arith)
+        ∙ rw (sits .slot) (sym done)

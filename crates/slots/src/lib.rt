@@ -8,7 +8,7 @@ ghost use Rattle.slots.specs.Layout.{start, rootOf, depthOf, countOf, fi
 ghost use Rattle.slots.specs.Mirror.{isSlot, takeSlot, freeSlot, setRoot};
 ghost use Rattle.slots.specs.Code.{hasSize, slotOf, bytesIn, placesIn, readingIn, misfits, fitsDepth, readingAt, writtenIn, hasFree, linked, formatNumber, Formats};
 ghost use Rattle.slots.specs.Search.{SawAt};
-ghost use Rattle.slots.specs.Splice.{insertedBytes, writtenBytes};
+ghost use Rattle.slots.specs.Splice.{insertedBytes, revaluedBytes, writtenBytes};
 use codec::Places;
 use codec::Reading;
 use node::Child;
@@ -335,6 +335,27 @@ pub fn insert_bytes(
         return;
     }
     word::write_u32(store, at, len as u32);
+    word::clear(store, from + len, NODE_ROOM - len);
+}
+
+// Another value at a place among the bytes of the node in a slot, and zeros behind them; nothing where there is no slot or they
+// don't have the place. It is what `write_node` makes of the node with that value where the bytes are in standard form.
+pub fn write_value(store: &mut [u8], slot: Slot, place: usize, value: Value)
+    ensures { λ _. ⌜ now (store .exit) ≡ revaluedBytes (now (store .entry)) (slot .0) place (value .0) ⌝ }
+{
+    if !is_slot(store, slot.0 as u64) {
+        return;
+    }
+    let at = start_of(slot);
+    let from = at + 4;
+    let len = word::read_u32(store, at) as usize;
+    if NODE_ROOM < len {
+        return;
+    }
+    if !word::fits(len, place, 8) {
+        return;
+    }
+    word::write_u64(store, from + place, value.0);
     word::clear(store, from + len, NODE_ROOM - len);
 }
 

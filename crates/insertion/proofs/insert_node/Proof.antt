@@ -1,8 +1,7 @@
--- `insertion::insert_node` meets its contract. That the right child's number is below 2 ^ 64 is what owning it tells (`good`). Assumes nothing.
+-- `insertion::insert_node` meets its contract. Assumes nothing.
 use mathlib.Core.Path.{_≡_}
 use lib.ListN.{length}
-use Rattle.word.proofs.NumLaws.{bytes-of}
-use Rattle.insertion.proofs.SpliceCode.{short-len, short-place, insert-split, insert-put}
+use Rattle.insertion.proofs.SpliceCode.{short-len, short-place, insert-by}
 use native.Mathlib.Omega.{arith}
 use borrow.Author.Needs.{needs}
 use Rattle.insertion.proofs.insert_node.Statement.{statement}
@@ -20,19 +19,11 @@ insert-node-spec =
     (λ c κs. search needs)  -- goes-short-requires
     (λ c κs. search needs)  -- insert-long-requires
     (λ c. search needs)  -- same-length
-    (λ c. (c .before .before .insert-long .ensures))  -- returns
+    (λ c. search needs)  -- returns
     (λ c κs. short-place _ _ _ _ (c .before .before .before .before .before .args .sep) (c .before .before .before .before .before .args .right) (c .before .before .read-places .ensures) (c .before .goes-short .ensures) (c .if1 .left))  -- place-of-requires
-    (λ c. search needs)  -- sub-split-short
-    (λ c. search needs)  -- part-split-short-start
-    (λ c. omega (arith, key-length (c .before .before .before .before .before .before .before .before .before .before .before .before), short-len _ _ _ _ (c .before .before .before .before .before .before .before .before .before .before .before .before .args .sep) (c .before .before .before .before .before .before .before .before .before .before .before .before .args .right) (c .before .before .before .before .before .before .before .before .before .read-places .ensures) (c .before .before .before .before .before .before .before .before .goes-short .ensures) (c .before .before .before .before .before .before .before .if1 .left)))  -- part-split-short-end
-    (λ c κs. search needs)  -- split-short-requires
+    (λ c. search needs)  -- sub-insert-short
+    (λ c. search needs)  -- part-insert-short-start
+    (λ c. omega (arith, key-length (c .before .before .before .before .before .before .before .before .before .before), short-len _ _ _ _ (c .before .before .before .before .before .before .before .before .before .before .args .sep) (c .before .before .before .before .before .before .before .before .before .before .args .right) (c .before .before .before .before .before .before .before .read-places .ensures) (c .before .before .before .before .before .before .goes-short .ensures) (c .before .before .before .before .before .if1 .left)))  -- part-insert-short-end
+    (λ c κs. search needs)  -- insert-short-requires
     (λ c. search needs)  -- same-length-2
-    (λ c. insert-split _ _ _ _ (c .before .before .before .before .before .before .before .before .before .before .before .before .before .before .before .before .args .sep) (c .before .before .before .before .before .before .before .before .before .before .before .before .before .before .before .before .args .right) (c .before .before .before .before .before .before .before .before .before .before .before .before .before .read-places .ensures) (c .before .before .before .before .before .before .before .before .before .before .before .before .goes-short .ensures) (c .before .before .before .before .before .before .before .before .before .before .before .if1 .left) (c .before .before .before .before .before .before .before .before .before .before .place-of .ensures) (c .before .before .before .before .before .before .if2 .taken) (c .before .before .split-short .ensures))  -- returns-2
-    (λ c κs. search needs)  -- slot-of-requires
-    (λ c. search needs)  -- sub-insert-bytes
-    (λ c. search needs)  -- part-insert-bytes-start
-    (λ c. omega (arith, key-length (c .before .before .before .before .before .before .before .before .before .before .before .before .before .before), short-len _ _ _ _ (c .before .before .before .before .before .before .before .before .before .before .before .before .before .before .args .sep) (c .before .before .before .before .before .before .before .before .before .before .before .before .before .before .args .right) (c .before .before .before .before .before .before .before .before .before .before .before .read-places .ensures) (c .before .before .before .before .before .before .before .before .before .before .goes-short .ensures) (c .before .before .before .before .before .before .before .before .before .if1 .left)))  -- part-insert-bytes-end
-    (λ c κs. search needs)  -- insert-bytes-requires
-    (λ c κs. search needs)  -- of-requires
-    (λ c. search needs)  -- same-length-3
-    (λ c. insert-put _ _ _ _ (c .before .before .before .before .before .before .before .before .before .before .before .before .before .before .before .before .before .before .before .args .sep) (c .before .before .before .before .before .before .before .before .before .before .before .before .before .before .before .before .before .before .before .args .right) (c .before .before .before .before .before .before .before .before .before .before .before .before .before .before .before .before .read-places .ensures) (c .before .before .before .before .before .before .before .before .before .before .before .before .before .before .before .goes-short .ensures) (c .before .before .before .before .before .before .before .before .before .before .before .before .before .before .if1 .left) (c .before .before .before .before .before .before .before .before .before .before .before .before .before .place-of .ensures) (bytes-of (c .before .before .before .before .before .before .before .before .before .before .before .before .before .before .before .before .before .before .before .args .store .now) (λ i h. omega (arith, (c .before .before .before .before .before .before .before .before .before .before .before .before .before .before .before .before .before .before .slice-known .given) i))) ((c .before .before .before .before .before .before .before .before .before .before .before .before .before .before .before .before .before .before .before .good) .1 .1 .1 .1 .1 .0 .1 .1 .0 .1) (c .before .before .before .before .before .before .before .before .before .if2 .left) (c .before .before .before .before .before .before .before .slot-of .ensures) (c .before .before .before .insert-bytes .ensures) (c .of .ensures)))  -- returns-3
+    (λ c. insert-by _ _ _ _ (c .before .before .before .before .before .before .before .before .before .before .before .before .before .before .args .sep) (c .before .before .before .before .before .before .before .before .before .before .before .before .before .before .args .right) (c .before .before .before .before .before .before .before .before .before .before .before .read-places .ensures) (c .before .before .before .before .before .before .before .before .before .before .goes-short .ensures) (c .before .before .before .before .before .before .before .before .before .if1 .left) (c .before .before .before .before .before .before .before .before .place-of .ensures) (c .before .before .insert-short .ensures)))  -- returns-2

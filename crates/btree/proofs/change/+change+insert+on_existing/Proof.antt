@@ -1,5 +1,4 @@
 -- `btree::change::change`, `insert` and `on_existing`, which call each other, meet their contracts: the depth falls. Assumes nothing.
-use Rattle.word.proofs.NumLaws.{bytes-of}
 use Rattle.btree.proofs.ChangeCode.{change-1, change-2, insert-1, insert-2, insert-3, insert-4, insert-5, existing-1, existing-2, existing-3, existing-4, existing-5, existing-6}
 use native.Mathlib.Omega.{arith}
 use borrow.Author.Needs.{needs}
@@ -20,10 +19,9 @@ use Rattle.outcome.proofs.Outcome.of.Reads as of-reads
 use Rattle.btree.proofs.change.remove_last.Reads as remove-last-reads
 use Rattle.btree.proofs.change.replace.Reads as replace-reads
 use Rattle.btree.proofs.change.settle.Reads as settle-reads
-use Rattle.insertion.proofs.insert_node.Reads as insert-node-reads
+use Rattle.insertion.proofs.insert_leaf.Reads as insert-leaf-reads
 use Rattle.insertion.proofs.set_value.Reads as set-value-reads
 use Rattle.removal.proofs.remove_here.Reads as remove-here-reads
-use Rattle.node.proofs.Separator.new.Reads as new-reads
 use Rattle.slots.proofs.search_at.Reads as search-at-reads
 use Rattle.btree.proofs.change.+change+insert+on_existing.{statement}
 use Rattle.btree.proofs.change.+change+insert+on_existing.Tie.{close}
@@ -65,9 +63,9 @@ change-part t =
     (λ c. search needs)  -- same-length-2
     (λ c. change-2 _ _ _ _ _ _ _ (c .before .before .before .before .if1 .left) (c .before .before .on-existing .ensures))  -- returns-2
 
-insert-part : {M : Type 1} (t : ℕ) → insert-lts.Closed (search-at-reads.Asked, search-at-reads.Learnt, of-reads.Asked, of-reads.Learnt, set-value-reads.Asked, set-value-reads.Learnt, new-reads.Asked, new-reads.Learnt, insert-node-reads.Asked, insert-node-reads.Learnt, change-below t, change.Post, is-plain-reads.Asked, is-plain-reads.Learnt, settle-reads.Asked, settle-reads.Learnt) (insert-at t) insert.Post M
+insert-part : {M : Type 1} (t : ℕ) → insert-lts.Closed (search-at-reads.Asked, search-at-reads.Learnt, of-reads.Asked, of-reads.Learnt, set-value-reads.Asked, set-value-reads.Learnt, insert-leaf-reads.Asked, insert-leaf-reads.Learnt, change-below t, change.Post, is-plain-reads.Asked, is-plain-reads.Learnt, settle-reads.Asked, settle-reads.Learnt) (insert-at t) insert.Post M
 insert-part t =
-    insert-lts.spec (search-at-reads.Asked, search-at-reads.Learnt, of-reads.Asked, of-reads.Learnt, set-value-reads.Asked, set-value-reads.Learnt, new-reads.Asked, new-reads.Learnt, insert-node-reads.Asked, insert-node-reads.Learnt, change-below t, change.Post, is-plain-reads.Asked, is-plain-reads.Learnt, settle-reads.Asked, settle-reads.Learnt) (insert-at t) insert.Post
+    insert-lts.spec (search-at-reads.Asked, search-at-reads.Learnt, of-reads.Asked, of-reads.Learnt, set-value-reads.Asked, set-value-reads.Learnt, insert-leaf-reads.Asked, insert-leaf-reads.Learnt, change-below t, change.Post, is-plain-reads.Asked, is-plain-reads.Learnt, settle-reads.Asked, settle-reads.Learnt) (insert-at t) insert.Post
     (λ c κs. search needs)  -- search-at-requires
     (λ c κs. search needs)  -- of-requires
     (λ c. search needs)  -- same-length
@@ -75,10 +73,9 @@ insert-part t =
     (λ c κs. search needs)  -- set-value-requires
     (λ c. search needs)  -- same-length-2
     (λ c. insert-2 _ _ _ _ (c .before .before .before .before .before .before .before .before .search-at .ensures) (c .before .before .before .before .before .before .if1 .left) _ _ _ (c .before .before .before .before .if2 .taken) (c .before .before .set-value .ensures))  -- returns-2
-    (λ c κs. search needs)  -- new-requires
-    (λ c κs. search needs)  -- insert-node-requires
+    (λ c κs. search needs)  -- insert-leaf-requires
     (λ c. search needs)  -- same-length-3
-    (λ c. insert-3 _ _ _ _ (c .before .before .before .before .before .before .before .before .before .before .search-at .ensures) (c .before .before .before .before .before .before .before .before .if1 .left) _ _ _ _ (bytes-of (c .before .before .before .before .before .before .before .before .before .before .before .before .before .before .args .key .now) (λ i h. omega (arith, (c .before .before .before .before .before .before .before .before .before .before .before .before .shared-slice-known .given) i))) ((c .before .before .before .before .before .before .before .before .before .before .before .before .before .before .good) .1 .1 .1 .1 .0 .1 .1 .0 .1) (c .before .before .before .before .before .before .if2 .left) (c .before .before .before .before .before .if3 .taken) (c .before .before .before .new .ensures) (c .before .before .insert-node .ensures))  -- returns-3
+    (λ c. insert-3 _ _ _ _ (c .before .before .before .before .before .before .before .before .before .search-at .ensures) (c .before .before .before .before .before .before .before .if1 .left) _ _ _ (c .before .before .before .before .before .if2 .left) (c .before .before .before .before .if3 .taken) (c .before .before .insert-leaf .ensures))  -- returns-3
     (λ c. search needs)  -- sub-change
     (λ c κs. (omega arith, tt))  -- change-requires
     (λ c κs. search needs)  -- is-plain-requires

@@ -1,0 +1,20 @@
+-- `insertion::insert_short` meets its contract. That the right child's number is below 2 ^ 64 is what owning it tells (`good`). Assumes nothing.
+use Rattle.word.proofs.NumLaws.{bytes-of}
+use Rattle.insertion.proofs.SpliceCode.{put-1, put-2}
+use native.Mathlib.Omega.{arith}
+use borrow.Author.Needs.{needs}
+use Rattle.insertion.proofs.insert_short.Statement.{statement}
+use Rattle.insertion.proofs.insert_short.Tie as tie
+
+pub insert-short-spec : {M : Type 1} → statement M
+insert-short-spec =
+    tie.close
+    (tie.spec
+    (λ c κs. search needs)  -- split-short-requires
+    (λ c. search needs)  -- same-length
+    (λ c. put-1 _ _ _ _ _ (c .before .before .before .before .before .before .before .args .right) (c .before .before .before .before .if1 .taken) (c .before .before .split-short .ensures))  -- returns
+    (λ c κs. search needs)  -- slot-of-requires
+    (λ c κs. search needs)  -- insert-bytes-requires
+    (λ c κs. search needs)  -- of-requires
+    (λ c. search needs)  -- same-length-2
+    (λ c. put-2 _ _ _ _ _ (c .before .before .before .before .before .before .before .before .before .before .args .right) (bytes-of (c .before .before .before .before .before .before .before .before .before .before .args .store .now) (λ i h. omega (arith, (c .before .before .before .before .before .before .before .before .before .slice-known .given) i))) ((c .before .before .before .before .before .before .before .before .before .before .good) .1 .1 .1 .1 .1 .1 .0 .1 .1 .0 .1) (c .before .before .before .before .before .before .before .if1 .left) (c .before .before .before .before .before .slot-of .ensures) (c .before .before .before .insert-bytes .ensures) (c .of .ensures)))  -- returns-2
