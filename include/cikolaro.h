@@ -1,8 +1,8 @@
 /*
  * A B-tree of order 8 in a byte store that the caller lends.
  *
- * "01" is document 01 of the project, which says what the tree must do. Each function below is proved to meet its contract for
- * all inputs: no argument has to be checked before a call. What C itself asks stays with the caller:
+ * "01" is document 01 of the project, which says what the tree must do, and "02" the one that changes it. Each function below is proved
+ * to meet its contract for all inputs: no argument has to be checked before a call. What C itself asks stays with the caller:
  *
  *  - a pointer names as many elements as the length beside it says; with length 0 it may be any pointer that is not null;
  *  - a pointer without a length names one element, or one whole array where the comment tells how many elements it has (288 for a
@@ -12,7 +12,7 @@
  *
  * The caller owns everything. No function keeps a pointer after it returns, allocates, or calls anything.
  *
- * Each function but cikolaro_node_child returns 01's number: 0 for done, else a refusal (CIKOLARO_... below).
+ * Each function but cikolaro_node_child returns a number: 0 for done, else a refusal (CIKOLARO_... below).
  */
 #ifndef CIKOLARO_H
 #define CIKOLARO_H
@@ -24,7 +24,7 @@
 extern "C" {
 #endif
 
-/* 01's numbers. */
+/* 01's numbers, and from 18 on 02's. */
 enum {
     CIKOLARO_DONE = 0,
     CIKOLARO_NOT_STORE = 1,  /* the size, the count or bytes 20..23 are not a store's */
@@ -34,7 +34,7 @@ enum {
     CIKOLARO_BAD_VALUE = 5,  /* a set, or a separator to be written, with value 0; a dereference with another value */
     CIKOLARO_FALLS = 6,      /* a key below the one before */
     CIKOLARO_TOO_MANY = 7,   /* a 65,536th record */
-    CIKOLARO_FAILS = 8,      /* the audit fails; a walk meets a bad node, or a depth above 7 */
+    CIKOLARO_FAILS = 8,      /* the audit fails; a walk meets a node that is bad or not in standard form, or a depth above 7 */
     CIKOLARO_NO_ROOM = 9,    /* too few free slots */
     CIKOLARO_SHORT_DESTINATION = 10, /* too few bytes for the node that is to be written */
     /* of node bytes alone: under 8 bytes for a child, under 9 for a separator's head, under 4 for a long size, a key cut short */
@@ -42,8 +42,12 @@ enum {
     CIKOLARO_SHORT_HEAD = 12,
     CIKOLARO_SHORT_SIZE = 13,
     CIKOLARO_SHORT_KEY = 14,
-    CIKOLARO_BAD_TEXT = 15,           /* a bad line, too much text, or too little room for its records */
-    CIKOLARO_TOO_MANY_SEPARATORS = 16 /* a node that is to be written has more than 8 */
+    CIKOLARO_BAD_TEXT = 15,            /* a bad line, too much text, or too little room for its records */
+    CIKOLARO_TOO_MANY_SEPARATORS = 16, /* a node that is to be written has more than 8 */
+    /* of node bytes read strictly: 0xFF before a length below 255, a separator with value 0, bytes behind the ninth child */
+    CIKOLARO_LOW_SIZE = 18,
+    CIKOLARO_ZERO_VALUE = 19,
+    CIKOLARO_BYTES_BEHIND = 20
 };
 
 #define CIKOLARO_LONGEST_KEY 288
@@ -106,9 +110,10 @@ uint32_t cikolaro_run_lines(uint8_t *store, size_t store_len, uint64_t *marks, s
                             size_t records_len, const uint8_t *text, size_t text_len, size_t *applied);
 
 /*
- * The value of a key. Store and key are only read; the store need not be audited.
+ * The value of a key. Store and key are only read; the store need not be audited. Nodes are read strictly (cikolaro_node_read_strict).
  * 0: *present is 1 and *value the value, or both are 0 where the key is absent.
- * 1, 4, 8: *present and *value are 0. What they held before is not read.
+ * 1, 4, 8: *present and *value are 0. What they held before is not read. 8 is also for a node that only the lenient reading takes
+ *    (cikolaro_node_read): a store that passes the audit has none.
  */
 uint32_t cikolaro_lookup(const uint8_t *store, size_t store_len, const uint8_t *key, size_t key_len, uint32_t *present,
                          uint64_t *value);
@@ -141,7 +146,8 @@ uint32_t cikolaro_seek(const uint8_t *key, size_t key_len, uint32_t *cursor_kind
  * A step forward: Start gives the smallest key, Seeked the first not below, At the first above, End none.
  * 0: an entry (*present 1, *value its value, the cursor At its key), or none (*present 0, *value 0, the cursor at End). All 288
  *    key bytes are written, those past the key with 0.
- * 1, 4, 8: the cursor stays, *present and *value are 0. What they held before is not read. The store is only read.
+ * 1, 4, 8: the cursor stays, *present and *value are 0. What they held before is not read. The store is only read; it need not be
+ *    audited, and 8 is also for a node that only the lenient reading takes, as for cikolaro_lookup.
  */
 uint32_t cikolaro_forward(const uint8_t *store, size_t store_len, uint32_t *cursor_kind, size_t *cursor_length,
                           uint8_t *cursor_key, uint32_t *present, uint64_t *value);
@@ -154,7 +160,8 @@ uint32_t cikolaro_backward(const uint8_t *store, size_t store_len, uint32_t *cur
                            uint8_t *cursor_key, uint32_t *present, uint64_t *value);
 
 /*
- * Node bytes, read where they stand: for who looks into a slot. The bytes are only read.
+ * Node bytes, read where they stand: for who looks into a slot. This is the lenient reading: it takes 0xFF before a length below
+ * 255, ends at a separator with value 0, and ignores what is behind the end. The bytes are only read.
  * 0: *count is how many separators there are (0 to 8). 4, 11 to 14: *count is 0. What it held before is not read.
  */
 uint32_t cikolaro_node_read(const uint8_t *bytes, size_t bytes_len, size_t *count);
@@ -171,6 +178,27 @@ uint64_t cikolaro_node_child(const uint8_t *bytes, size_t bytes_len, size_t inde
  */
 uint32_t cikolaro_node_separator(const uint8_t *bytes, size_t bytes_len, size_t index, size_t *start, size_t *length,
                                  uint64_t *value);
+
+/*
+ * The strict reading: it takes exactly the bytes that cikolaro_node_write makes, so two byte strings that it reads as the same node
+ * are the same. Store calls read nodes so. The bytes are only read.
+ * 0: *count is how many separators there are (0 to 8), *place is bytes_len. cikolaro_node_read takes these bytes too, as the same node,
+ *    so cikolaro_node_child gives its children.
+ * 4, 11 to 14, 18 to 20: *count is 0, *place is where the refused child or separator begins (a separator begins with its value); for 20
+ *    it is where the first byte behind the ninth child is. Reading goes from the front and stops at the first refusal: 11 for a child;
+ *    within a separator 12, 13, 14, 18, 19, 4; 20 behind the ninth child.
+ * What *count and *place held before is not read.
+ */
+uint32_t cikolaro_node_read_strict(const uint8_t *bytes, size_t bytes_len, size_t *count, size_t *place);
+
+/*
+ * A separator by the strict reading: its key is the part of `bytes` that begins at *start and is *length long; its value is *value,
+ * never 0. The bytes are only read.
+ * Returns what cikolaro_node_read_strict does. All three are 0 for a separator that isn't there, and for refused bytes. What they held
+ * before is not read.
+ */
+uint32_t cikolaro_node_separator_strict(const uint8_t *bytes, size_t bytes_len, size_t index, size_t *start, size_t *length,
+                                        uint64_t *value);
 
 /*
  * Writes a node of `count` separators in standard form to the front of the destination. Lent are 9 children, 8 values, 8 key lengths

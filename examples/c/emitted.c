@@ -1,6 +1,7 @@
 /*
  * A store in a C program: rows that were emitted are set, one is taken back, house lines are run, a key is looked up, the entries are
- * walked in both directions, and a node is written anew. Everything lies in static memory; nothing is allocated.
+ * walked in both directions, a node is written anew, and one that somebody else wrote is read strictly. Everything lies in static
+ * memory; nothing is allocated.
  */
 #include <inttypes.h>
 #include <stdio.h>
@@ -131,6 +132,21 @@ static void look_inside(void) {
          "a destination too short");
 }
 
+/* A partner's node: child 0, value 5, 0xFF before a key of two bytes, child 0. It says what a plain one says, in other bytes. */
+static void read_strictly(void) {
+    static const uint8_t theirs[31] = {[8] = 5, [16] = 0xFF, [17] = 2, [21] = 'a', [22] = 'b'};
+    static const uint8_t ours[27] = {[8] = 5, [16] = 2, [17] = 'a', [18] = 'b'};
+    size_t count, place, start, length;
+    uint64_t value;
+    must(cikolaro_node_read(theirs, sizeof theirs, &count) == CIKOLARO_DONE && count == 1, "the lenient reading takes it");
+    must(cikolaro_node_read_strict(theirs, sizeof theirs, &count, &place) == CIKOLARO_LOW_SIZE && count == 0 && place == 8,
+         "the strict one refuses the separator at byte 8");
+    must(cikolaro_node_read_strict(ours, sizeof ours, &count, &place) == CIKOLARO_DONE && count == 1 && place == sizeof ours,
+         "standard form is taken");
+    must(cikolaro_node_separator_strict(ours, sizeof ours, 0, &start, &length, &value) == CIKOLARO_DONE, "its separator is read");
+    must(start == 17 && length == 2 && value == 5, "it is ab");
+}
+
 static void refusals(void) {
     size_t applied = 77;
     uint32_t present = 77;
@@ -162,6 +178,7 @@ int main(void) {
     run_text();
     ask();
     look_inside();
+    read_strictly();
     refusals();
     must(cikolaro_audit(store, sizeof store, marks, CIKOLARO_MARK_WORDS(SLOTS), &reached) == CIKOLARO_DONE, "the audit passes");
     print_all();

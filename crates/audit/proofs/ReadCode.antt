@@ -35,7 +35,7 @@ use Rattle.slots.specs.Code.{nodeRoom, slotOf, bytesIn, placesIn, readingIn, fi
 use Rattle.slots.proofs.HeaderLaws.{and-both}
 use Rattle.slots.proofs.PlaceLaws.{slot-is, slot-part}
 use Rattle.slots.proofs.StoreLaws.{read-bytes}
-use Rattle.slots.proofs.CodeLaws.{whole, bytes-small, writable-in, read-accepted, read-refused, accepted-holds, accepted-slot}
+use Rattle.slots.proofs.CodeLaws.{whole, bytes-small, writable-in, read-accepted, read-refused, accepted-holds, accepted-standard, accepted-bytes, accepted-slot}
 use Rattle.slots.proofs.Building.{sameBytes-true, sameBytes-refl}
 use Rattle.audit.specs.Walk.{readWritten}
 use Rattle.audit.specs.Code.{hasZeros, stepsAt}
@@ -113,10 +113,10 @@ module _ (s : List ℕ) (bs : Bytes s) (x : ℕ) where
     long : lengthAt s x ≤ mostNode
     bytes : bytesIn s x ≡ part s (start x + 4) (lengthAt s x)
 
-  held : holdsNode s x ≡ true → Held
-  unfolding bytesIn nodeBytes
-  held h =
-      let p = parts h in
+  held : isAccepted (readingIn s x .ending) ≡ true → Held
+  unfolding nodeBytes
+  held ok =
+      let p = parts (accepted-holds s x ok) in
       let q = and-both (leb leastNode (lengthAt s x)) (leb (lengthAt s x) mostNode) (p .1) in
       let w = whole s x (p .0) in
       record {
@@ -124,7 +124,7 @@ module _ (s : List ℕ) (bs : Bytes s) (x : ℕ) where
         within = w .within;
         short = leb-true leastNode (lengthAt s x) (q .0);
         long = leb-true (lengthAt s x) mostNode (q .1);
-        bytes = pickT _ _ h;
+        bytes = accepted-bytes s x ok;
       }
     where
       parts : holdsNode s x ≡ true → (isSlot s x ≡ true) × ((leb leastNode (lengthAt s x) && leb (lengthAt s x) mostNode) ≡ true)
@@ -189,23 +189,10 @@ module _ (s : List ℕ) (bs : Bytes s) (x : ℕ) where
     read-some : readWritten s x ≡ cond (sameBytes (slotAt s x) (used (firstIn s x) (restIn s x))) (some (nodeIn s x)) none
     read-some = ap (asWritten (slotAt s x)) (read-accepted s x ok)
 
-    -- a slot as the writer leaves it has standard form
-    written-standard : slotAt s x ≡ used (firstIn s x) (restIn s x) → placesIn s x .standard ≡ true
-    unfolding placesIn
-    written-standard h =
-        let is = accepted-slot s x ok .0 in
-        let m : InSlot s (nodeIn s x) = record { fine = writable-in s x bs; bytes = h } in
-        standard-flagged (bytesIn s x) (record { first = firstIn s x; rest = restIn s x; fine = writable-in s x bs; bytes = the-bytes ∙ read-bytes s (nodeIn s x) is m })
-      where
-        the-bytes : bytesIn s x ≡ nodeBytes s x
-        the-bytes = unfold bytesIn in pickT _ _ (accepted-holds s x ok)
-
   pub read-loose : placesIn s x .standard ≡ false → readWritten s x ≡ none
   read-loose h =
       by-bool (isAccepted (readingIn s x .ending))
-      (λ ok. read-some ok ∙ by-cond (λ (o : Option (Node ℕ ℕ)). o ≡ none) (sameBytes (slotAt s x) (used (firstIn s x) (restIn s x)))
-      (λ e. no-way (sym (written-standard ok (sameBytes-true (slotAt s x) (used (firstIn s x) (restIn s x)) e)) ∙ h))
-      (λ e. refl))
+      (λ ok. no-way (sym (accepted-standard s x ok) ∙ h))
       (λ no. ap (asWritten (slotAt s x)) (read-refused s x no))
 
   module _ (h : placesIn s x .standard ≡ true) where
@@ -222,7 +209,7 @@ module _ (s : List ℕ) (bs : Bytes s) (x : ℕ) where
     standard-slot = accepted-slot s x ending-ok .1
 
     stands : Held
-    stands = held (accepted-holds s x ending-ok)
+    stands = held ending-ok
 
     encoded : bytesIn s x ≡ encode (firstIn s x) (restIn s x)
     encoded = scan-sound (bytesIn s x) (bytes-small s x bs) .same (flags .0) (flags .1)

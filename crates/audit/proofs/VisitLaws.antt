@@ -22,7 +22,7 @@ use Rattle.node.specs.Chain.{Step}
 use Rattle.slots.specs.Layout.{slotAt, used, countOf}
 use Rattle.slots.specs.Mirror.{isSlot, holdsNode, lengthAt, nodeBytes, readOf, readNode}
 use Rattle.slots.specs.Limits.{leastNode, mostNode}
-use Rattle.codec.specs.Codec.{decode}
+use Rattle.codec.specs.Strict.{strictOf}
 use Rattle.slots.specs.Entries.{asWritten}
 use Rattle.slots.specs.Stands.{label, mapRight, mapNode, InSlot, Holds, Based}
 use Rattle.slots.proofs.HeaderLaws.{and-both}
@@ -149,7 +149,7 @@ read-slot : (s : List ℕ) (x : ℕ) → IfSome (λ (m : Node ℕ ℕ). isSlot s
 unfolding readNode holdsNode
 read-slot s x =
     by-cond (IfSome (λ (m : Node ℕ ℕ). isSlot s x ≡ true)) (isSlot s x && (leb leastNode (lengthAt s x) && leb (lengthAt s x) mostNode))
-    (λ q. go (and-both (isSlot s x) (leb leastNode (lengthAt s x) && leb (lengthAt s x) mostNode) q .0) (readOf x (decode (nodeBytes s x))))
+    (λ q. go (and-both (isSlot s x) (leb leastNode (lengthAt s x) && leb (lengthAt s x) mostNode) q .0) (readOf x (strictOf (nodeBytes s x))))
     (λ q. tt)
   where
     go : isSlot s x ≡ true → (o : Option (Node ℕ ℕ)) → IfSome (λ (m : Node ℕ ℕ). isSlot s x ≡ true) o

@@ -12,7 +12,7 @@ use borrow.Author.Tests.{le-leb}
 use Rattle.word.specs.Key.{Key, cmp}
 use Rattle.word.proofs.KeyOrder.{cmp-eq}
 use Rattle.tree.specs.Map.{Sep}
-use Rattle.tree.specs.Tree.{Node, Kid, Tree, Zip, readRest, none-of, slots, plug, at, below, same}
+use Rattle.tree.specs.Tree.{Kid, Tree, Zip, readRest, none-of, slots, plug, at, below, same}
 use Rattle.tree.specs.Free.{occurs}
 use Rattle.tree.specs.Set.{Parts, one, two, Placed, splitOver8, graft, setBelow, setHere, set}
 use Rattle.tree.specs.State.{Fits, Shaped}
@@ -78,8 +78,8 @@ module _ (n root depth : ℕ) (small : n < 2 ^ 32) (d : ℕ) (s fs : List ℕ) (
       let fz = node-fits n root depth small d s fs x l c (y ∷ q) z in
       let written : setValueM (length (mapLeft f l)) (e .val) x s (readNodeAt d s x) ≡ record { out = plain; store = writeNode s (plug x (mapLeft f l) (f c) ((e, f (y .1)) ∷ mapRight f q)) } =
       ap (setValueM (length (mapLeft f l)) (e .val) x s) (node-read n root depth small d s fs x l c (y ∷ q) z)
-      ∙ ap (λ (u : Node ℕ ℕ). record { out = plain; store = writeNode s u })
-      (revalued-plug x (mapLeft f l) (f c) (e .val) (y .0, f (y .1)) (mapRight f q) ∙ ap (λ (k : Key). plug x (mapLeft f l) (f c) ((record { key = k; val = e .val }, f (y .1)) ∷ mapRight f q)) key) in
+      ∙ revalued-plug x (mapLeft f l) (f c) (e .val) x s (y .0, f (y .1)) (mapRight f q)
+      ∙ ap (λ (k : Key). record { out = plain; store = writeNode s (plug x (mapLeft f l) (f c) ((record { key = k; val = e .val }, f (y .1)) ∷ mapRight f q)) }) key in
       subst (Done n root depth (x ∷ []) x (suc d) s fs (record { parts = one (plug x l c ((e, y .1) ∷ q)); free = fs })) (sym written)
       (plug-written n root depth small d s fs (z .base) x l c ((e, y .1) ∷ q) (record { lefts = z .kids .lefts; here = z .kids .here; rights = z .kids .rights })
       (record { lefts = fz .lefts; here = fz .here; rights = (fe, fz .rights .1, fz .rights .2) }) (z .once) (node-count n root depth small d s fs x l c (y ∷ q) z))

@@ -6,10 +6,12 @@ use Rattle.node.specs.declared.Child.{Child}
 use Rattle.node.specs.declared.Value.{Value}
 use Rattle.node.specs.declared.Node.{Node}
 use Rattle.codec.specs.declared.Places.{Places}
+use Rattle.codec.specs.declared.Stopped.{Stopped}
 use Rattle.codec.specs.declared.Written.{Written}
 use Rattle.codec.specs.Codec.{endingNumber}
 use Rattle.node.specs.Chain.{valueOf, childOf}
-use Rattle.codec.specs.Layout.{writtenOf, leftBy, writtenNumber, writtenLength}
+use Rattle.codec.specs.Layout.{placesOf, writtenOf, leftBy, writtenNumber, writtenLength}
+use Rattle.codec.specs.Strict.{strictNumber, strictEnd, standardOf}
 use Rattle.iter.specs.declared.LookedUp.{LookedUp}
 use Rattle.iter.specs.declared.Place.{Place}
 use Rattle.iter.specs.declared.Cursor.{Cursor}
@@ -18,7 +20,7 @@ use Rattle.iter.specs.declared.Sought.{Sought}
 use Rattle.iter.specs.Walk.{lookupNumber}
 use Rattle.iter.specs.Cursor.{soughtNumber}
 use Rattle.lent.specs.Lent.{presentOf, foundValue, placeOf, cursorOf, Holds, Steps, within}
-use Rattle.capi.specs.Face.{LooksUp, Seeks, ReadsNode, ReadsSeparator, lentNode, WritesNode}
+use Rattle.capi.specs.Face.{LooksUp, Seeks, ReadsNode, ReadsSeparator, ReadsStrict, ReadsSeparatorStrict, lentNode, WritesNode}
 
 pub looks-up : {a l : LookedUp} {r p v : ℕ} → l ≡ a → p ≡ presentOf l → v ≡ foundValue l → r ≡ lookupNumber l → LooksUp a r p v
 looks-up {r = r} {p = p} {v = v} e f g h = subst (λ (x : LookedUp). LooksUp x r p v) e (record { number = h; is-present = f; value-is = g })
@@ -44,6 +46,24 @@ reads-child {r = r} i e f = subst (λ (x : Places). r ≡ within 8 (x .children)
 
 pub reads-node : {p q : Places} {r n : ℕ} → q ≡ p → n ≡ q .count → r ≡ endingNumber (q .ending) → ReadsNode p r n
 reads-node {r = r} {n = n} e f g = subst (λ (x : Places). ReadsNode x r n) e (record { number = g; count-is = f })
+
+-- the same by the strict reading
+pub reads-strict : {s : List ℕ} {p : Places} {t : Stopped} {r n at : ℕ} → p ≡ placesOf (standardOf s) → n ≡ p .count → t ≡ strictEnd s → at ≡ t .at → r ≡ strictNumber (t .ending) → ReadsStrict s r n at
+reads-strict e f g h k = record {
+  number = k ∙ ap (λ (x : Stopped). strictNumber (x .ending)) g;
+  count-is = f ∙ ap (λ (x : Places). x .count) e;
+  place-is = h ∙ ap (λ (x : Stopped). x .at) g;
+}
+
+pub reads-separator-strict : {s : List ℕ} {p : Places} {t : Stopped} {i r n m v : ℕ} → p ≡ placesOf (standardOf s)
+    → n ≡ within 7 (p .starts) i 0 → m ≡ within 7 (p .lens) i 0 → v ≡ within 7 (p .values) i (valueOf 0) .0
+    → t ≡ strictEnd s → r ≡ strictNumber (t .ending) → ReadsSeparatorStrict s i r n m v
+reads-separator-strict {i = i} e f g h q k = record {
+  number = k ∙ ap (λ (x : Stopped). strictNumber (x .ending)) q;
+  start-is = f ∙ ap (λ (x : Places). within 7 (x .starts) i 0) e;
+  length-is = g ∙ ap (λ (x : Places). within 7 (x .lens) i 0) e;
+  value-is = h ∙ ap (λ (x : Places). within 7 (x .values) i (valueOf 0) .0) e;
+}
 
 -- ---- a node to be written
 

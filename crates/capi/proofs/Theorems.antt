@@ -23,7 +23,7 @@ use Rattle.iter.specs.declared.Cursor.{Cursor}
 use Rattle.iter.specs.declared.Stepped.{Stepped}
 use Rattle.iter.specs.declared.Sought.{Sought}
 use Rattle.lent.specs.Lent.{Holds, Steps}
-use Rattle.capi.specs.Face.{FormatsBy, AuditsBy, BatchesBy, ParsesBy, RunsLinesBy, LooksUp, Seeks, ReadsNode, ReadsSeparator, WritesNode}
+use Rattle.capi.specs.Face.{FormatsBy, AuditsBy, BatchesBy, ParsesBy, RunsLinesBy, LooksUp, Seeks, ReadsNode, ReadsSeparator, ReadsStrict, ReadsSeparatorStrict, WritesNode}
 
 pub format-once : {s t t′ : List ℕ} {n r r′ : ℕ} → FormatsBy s n r t → FormatsBy s n r′ t′ → (r ≡ r′) × (t ≡ t′)
 format-once a b = (a .number ∙ a .formats .number ∙ sym (b .number ∙ b .formats .number), a .formats .bytes ∙ sym (b .formats .bytes))
@@ -77,6 +77,12 @@ node-once a b = (a .number ∙ sym (b .number), a .count-is ∙ sym (b .count-is
 
 pub separator-once : {x : Places} {i r s n v r′ s′ n′ v′ : ℕ} → ReadsSeparator x i r s n v → ReadsSeparator x i r′ s′ n′ v′ → (r ≡ r′) × (s ≡ s′) × (n ≡ n′) × (v ≡ v′)
 separator-once a b = (a .number ∙ sym (b .number), a .start-is ∙ sym (b .start-is), a .length-is ∙ sym (b .length-is), a .value-is ∙ sym (b .value-is))
+
+pub strict-once : {x : List ℕ} {r n p r′ n′ p′ : ℕ} → ReadsStrict x r n p → ReadsStrict x r′ n′ p′ → (r ≡ r′) × (n ≡ n′) × (p ≡ p′)
+strict-once a b = (a .number ∙ sym (b .number), a .count-is ∙ sym (b .count-is), a .place-is ∙ sym (b .place-is))
+
+pub separator-strict-once : {x : List ℕ} {i r s n v r′ s′ n′ v′ : ℕ} → ReadsSeparatorStrict x i r s n v → ReadsSeparatorStrict x i r′ s′ n′ v′ → (r ≡ r′) × (s ≡ s′) × (n ≡ n′) × (v ≡ v′)
+separator-strict-once a b = (a .number ∙ sym (b .number), a .start-is ∙ sym (b .start-is), a .length-is ∙ sym (b .length-is), a .value-is ∙ sym (b .value-is))
 
 pub write-once : {x : Node} {d t t′ : List ℕ} {r n r′ n′ : ℕ} → WritesNode x d r t n → WritesNode x d r′ t′ n′ → (r ≡ r′) × (t ≡ t′) × (n ≡ n′)
 write-once a b = (a .number ∙ sym (b .number), a .bytes ∙ sym (b .bytes), a .length-is ∙ sym (b .length-is))

@@ -7,7 +7,8 @@ use Rattle.node.specs.declared.Node.{Node}
 use Rattle.codec.specs.declared.Places.{Places}
 use Rattle.codec.specs.Codec.{endingNumber}
 use Rattle.node.specs.Chain.{valueOf, childOf}
-use Rattle.codec.specs.Layout.{writtenOf, leftBy, writtenNumber, writtenLength}
+use Rattle.codec.specs.Layout.{placesOf, writtenOf, leftBy, writtenNumber, writtenLength}
+use Rattle.codec.specs.Strict.{strictNumber, strictEnd, standardOf}
 use Rattle.slots.specs.declared.Formatted.{Formatted}
 use Rattle.slots.specs.Code.{formatNumber, Formats}
 use Rattle.audit.specs.declared.Verdict.{Verdict}
@@ -89,6 +90,20 @@ pub record ReadsSeparator (p : Places) (i r start len value : ℕ) : Type 0 wher
   pub start-is : start ≡ within 7 (p .starts) i 0
   pub length-is : len ≡ within 7 (p .lens) i 0
   pub value-is : value ≡ within 7 (p .values) i (valueOf 0) .0
+
+-- Of node bytes s by the strict reading: the number r, in a separator 12, 13, 14, 18, 19, 4, and 11 and 20; how many separators there
+-- are, 0 if refused; and where it stopped.
+pub record ReadsStrict (s : List ℕ) (r count place : ℕ) : Type 0 where
+  pub number : r ≡ strictNumber (strictEnd s .ending)
+  pub count-is : count ≡ placesOf (standardOf s) .count
+  pub place-is : place ≡ strictEnd s .at
+
+-- The same number, and separator i, as `ReadsSeparator` has it of the lenient reading.
+pub record ReadsSeparatorStrict (s : List ℕ) (i r start len value : ℕ) : Type 0 where
+  pub number : r ≡ strictNumber (strictEnd s .ending)
+  pub start-is : start ≡ within 7 (placesOf (standardOf s) .starts) i 0
+  pub length-is : len ≡ within 7 (placesOf (standardOf s) .lens) i 0
+  pub value-is : value ≡ within 7 (placesOf (standardOf s) .values) i (valueOf 0) .0
 
 -- The node that lies in lent numbers and bytes, whatever they hold.
 abbrev pub lentNode : ℕ → List ℕ → List ℕ → List ℕ → List ℕ → Node

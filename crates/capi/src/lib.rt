@@ -6,7 +6,7 @@ ghost use Rattle.codec.specs.Layout.{placesOf};
 ghost use Rattle.iter.specs.Walk.{lookupOf};
 ghost use Rattle.iter.specs.Cursor.{soughtOf, forwardOf, backwardOf};
 ghost use Rattle.lent.specs.Lent.{cursorOf, Steps, within};
-ghost use Rattle.capi.specs.Face.{FormatsBy, AuditsBy, BatchesBy, ParsesBy, RunsLinesBy, LooksUp, Seeks, ReadsNode, ReadsSeparator, lentNode, WritesNode};
+ghost use Rattle.capi.specs.Face.{FormatsBy, AuditsBy, BatchesBy, ParsesBy, RunsLinesBy, LooksUp, Seeks, ReadsNode, ReadsSeparator, ReadsStrict, ReadsSeparatorStrict, lentNode, WritesNode};
 use codec::Places;
 use iter::Cursor;
 use lent::answer_step;
@@ -195,6 +195,43 @@ pub extern "C" fn cikolaro_node_separator(
     *len = length_at(places, index);
     *value = value_at(places, index);
     let ended = places.ending;
+    ended.number()
+}
+
+// ---- the same by the strict reading
+
+#[no_mangle]
+pub extern "C" fn cikolaro_node_read_strict(
+    bytes: &[u8],
+    count: &mut usize,
+    place: &mut usize,
+) -> u32
+    ensures { λ r. ⌜ ReadsStrict (now (bytes .entry)) r (now (count .exit)) (now (place .exit)) ⌝ }
+{
+    let standard = Places::read_standard(bytes);
+    *count = standard.count;
+    let stopped = codec::strict_end(bytes);
+    *place = stopped.at;
+    let ending = stopped.ending;
+    ending.number()
+}
+
+#[no_mangle]
+pub extern "C" fn cikolaro_node_separator_strict(
+    bytes: &[u8],
+    index: usize,
+    start: &mut usize,
+    len: &mut usize,
+    value: &mut u64,
+) -> u32
+    ensures { λ r. ⌜ ReadsSeparatorStrict (now (bytes .entry)) index r (now (start .exit)) (now (len .exit)) (now (value .exit)) ⌝ }
+{
+    let held = Places::read_standard(bytes);
+    *start = start_at(held, index);
+    *len = length_at(held, index);
+    *value = value_at(held, index);
+    let stopped = codec::strict_end(bytes);
+    let ended = stopped.ending;
     ended.number()
 }
 

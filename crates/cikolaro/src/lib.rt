@@ -3,17 +3,20 @@
 ghost use mathlib.Core.Path.{_≡_};
 ghost use Rattle.word.specs.Part.{part};
 ghost use Rattle.codec.specs.Layout.{readingOf, keyPlace, writtenOf, leftBy};
+ghost use Rattle.codec.specs.Strict.{standardOf, strictReading};
 ghost use Rattle.slots.specs.Code.{Formats};
 ghost use Rattle.audit.specs.Contract.{Audits};
 ghost use Rattle.batch.specs.Contract.{Batches};
 ghost use Rattle.iter.specs.Walk.{lookupOf};
 ghost use Rattle.iter.specs.Cursor.{soughtOf, forwardOf, backwardOf};
 ghost use Rattle.lines.specs.Parses.{Parses};
+ghost use Rattle.lines.specs.Written.{entryLine, refusedLine, Writes};
 ghost use Rattle.cikolaro.specs.Contract.{RunsLines};
 use audit::Verdict;
 use batch::Answer;
 use batch::Batched;
 use codec::Reading;
+use codec::StrictReading;
 use codec::Written;
 use iter::Cursor;
 use iter::LookedUp;
@@ -38,6 +41,20 @@ pub fn key(bytes: &[u8], index: Index) -> &[u8]
     ensures { λ r. ⌜ now r ≡ part (now (bytes .entry)) (keyPlace (now (bytes .entry)) (index .0) .start) (keyPlace (now (bytes .entry)) (index .0) .len) ⌝ }
 {
     codec::key(bytes, index)
+}
+
+// A node's bytes by the strict reading, which takes standard form alone: with how it ended, 0, 4, 11 to 14, 18 to 20, and where.
+pub fn read_strict(bytes: &[u8]) -> StrictReading
+    ensures { λ r. ⌜ r ≡ strictReading (now (bytes .entry)) ⌝ }
+{
+    codec::read_strict(bytes)
+}
+
+// The key of a named separator by the strict reading: empty where it refuses.
+pub fn key_strict(bytes: &[u8], index: Index) -> &[u8]
+    ensures { λ r. ⌜ now r ≡ part (now (bytes .entry)) (keyPlace (standardOf (now (bytes .entry))) (index .0) .start) (keyPlace (standardOf (now (bytes .entry))) (index .0) .len) ⌝ }
+{
+    codec::key_strict(bytes, index)
 }
 
 // A node in standard form to the front of the destination: 0 with its length, 16, 4, 5, 10.
@@ -118,4 +135,18 @@ pub fn run_lines(store: &mut [u8], marks: &mut [u64], records: &mut [u8], text: 
     }
     let len = parsed.length();
     batch::batch(store, marks, &records[0..len])
+}
+
+// "writes entries, key TAB value": the line to the front of dst, where it fits; its length, or 0.
+pub fn write_entry(key: &[u8], value: u64, dst: &mut [u8]) -> usize
+    ensures { λ r. ⌜ Writes (entryLine (now (key .entry)) value) (now (dst .entry)) r (now (dst .exit)) ⌝ }
+{
+    lines::write_entry(key, value, dst)
+}
+
+// "A refusal writes one line: `refused` TAB number TAB applied": as for an entry.
+pub fn write_refused(number: u32, applied: u64, dst: &mut [u8]) -> usize
+    ensures { λ r. ⌜ Writes (refusedLine number applied) (now (dst .entry)) r (now (dst .exit)) ⌝ }
+{
+    lines::write_refused(number, applied, dst)
 }

@@ -5,8 +5,10 @@ pub mod LayoutLaws
 pub mod ReadLaws
 pub mod FillLaws
 pub mod Theorems
+pub mod StrictLaws
+pub mod StrictTheorems
+pub mod StrictCode
 pub mod WriteLaws
 pub mod SpliceLaws
 pub mod PositionLaws
-pub mod PositionCode
 pub mod Table

@@ -29,15 +29,27 @@ pub positive : (v : ℕ) → (v ≡ 0 → ⊥) → 0 < v
 positive zero z = absurd (z refl)
 positive (suc v) z = omega arith
 
+pub and-left : (x y : Bool) → (x && y) ≡ true → x ≡ true
+and-left true y p = refl
+and-left false y p = p
+
+pub and-right : (x y : Bool) → (x && y) ≡ true → y ≡ true
+and-right true y p = p
+and-right false y p = cc
+
+-- what holds of each ending holds of all
+pub each : (P : Ending → Type 0) → P NoByteLeft → P BytesIgnored → P ZeroValue → P ShortChild → P ShortHead → P ShortSize → P ShortKey → P LongKey → (e : Ending) → P e
+each P a b c d e f g h NoByteLeft = a
+each P a b c d e f g h BytesIgnored = b
+each P a b c d e f g h ZeroValue = c
+each P a b c d e f g h ShortChild = d
+each P a b c d e f g h ShortHead = e
+each P a b c d e f g h ShortSize = f
+each P a b c d e f g h ShortKey = g
+each P a b c d e f g h LongKey = h
+
 pub refused-not-whole : (m : Ending) → isAccepted m ≡ false → isNoByteLeft m ≡ false
-refused-not-whole NoByteLeft a = cc
-refused-not-whole BytesIgnored a = refl
-refused-not-whole ZeroValue a = refl
-refused-not-whole ShortChild a = refl
-refused-not-whole ShortHead a = refl
-refused-not-whole ShortSize a = refl
-refused-not-whole ShortKey a = refl
-refused-not-whole LongKey a = refl
+refused-not-whole = each (λ m. isAccepted m ≡ false → isNoByteLeft m ≡ false) (λ a. a) (λ a. refl) (λ a. refl) (λ a. refl) (λ a. refl) (λ a. refl) (λ a. refl) (λ a. refl)
 
 -- ---- of any list: keys lie within it
 
@@ -79,6 +91,29 @@ module _ (s : List ℕ) where
   -- the end of a key that was found
   pub head-within : (at : ℕ) {h : Head} {v : Value} {start len : ℕ} {plain : Bool} → h ≡ headAt s at → h ≡ Separator v start len plain → start + len ≤ length s
   head-within at e q = let l : HeadLies (Separator _ _ _ _) = subst HeadLies (sym e ∙ q) (head-lies at) in l .within
+
+  -- what stands where a separator may never ends the node with no byte left
+  abbrev HeadGoes : Head → Type 0
+  HeadGoes (Separator v start len plain) = Unit {0}
+  HeadGoes (Ended e) = isNoByteLeft e ≡ false
+
+  key-goes : (v start len : ℕ) (plain : Bool) → HeadGoes (keyAt s v start len plain)
+  unfolding keyAt
+  key-goes v start len plain =
+      by-test HeadGoes (fitsIn (length s) start len) (λ w.
+      by-test HeadGoes (eqb v 0) (λ z. refl) λ z.
+      by-test HeadGoes (ltb longestKey len) (λ l. refl) (λ l. tt))
+      (λ w. refl)
+
+  pub head-ends : (at : ℕ) {h : Head} {e : Ending} → h ≡ headAt s at → h ≡ Ended e → isNoByteLeft e ≡ false
+  head-ends at {h} {e} p q = let g : HeadGoes (Ended e) = subst HeadGoes (sym p ∙ q) go in g
+    where
+      go : HeadGoes (headAt s at)
+      go = unfold headAt sizeAt in
+          by-test HeadGoes (fitsIn (length s) at 9) (λ w.
+          by-test HeadGoes (ltb (getD s (at + 8) 0) 255) (λ c. key-goes (readAt 8 s at) (at + 9) (getD s (at + 8) 0) true) λ c.
+          by-test HeadGoes (fitsIn (length s) (at + 9) 4) (λ d. key-goes (readAt 8 s at) (at + 13) (readAt 4 s (at + 9)) (leb 255 (readAt 4 s (at + 9)))) (λ d. refl))
+          (λ w. refl)
 
   stop-lies : (k : ℕ) (e : Ending) (c : ℕ) → Lies s k (stop e c)
   stop-lies k e c = record { most = omega arith; spots = tt }
@@ -192,14 +227,6 @@ module _ (s : List ℕ) (b : Bytes s) where
         same = λ p q. drop-read 8 s at w b ∙ rw (← e) (ap (λ (t : List ℕ). le 8 c ++ t) (h .same (and-left plain (allPlain (next (start + len) .rest)) p)
             ∙ ap (λ (t : List ℕ). encodeSep (sepOf x) ++ t) (r .same (and-right plain (allPlain (next (start + len) .rest)) p) q)));
       }
-    where
-      and-left : (x y : Bool) → (x && y) ≡ true → x ≡ true
-      and-left true y p = refl
-      and-left false y p = p
-
-      and-right : (x y : Bool) → (x && y) ≡ true → y ≡ true
-      and-right true y p = p
-      and-right false y p = cc
   follow-sound at c w e next ih (Ended m) h = record {
     first = rw e (readAt-small 8 s at b);
     small = tt;

@@ -26,7 +26,7 @@ use Rattle.codec.specs.Layout.{allPlain, layout, placesOf, placeIn, keyP
 use Rattle.codec.specs.Mirror.{widthAll, widthFirst, putSep}
 use Rattle.codec.specs.Splice.{spliced, spliceAt, spliceWidth, Spliced, spliceIn}
 use Rattle.codec.proofs.EncodeLaws.{length-sep, rest-append, length-encode, sep-short, sep-long}
-use Rattle.codec.proofs.ScanLaws.{AllLie, scan-lies}
+use Rattle.codec.proofs.ScanLaws.{and-left, and-right, AllLie, scan-lies}
 use Rattle.codec.proofs.ReadLaws.{starts-at, lens-at}
 
 -- ---- the bytes
@@ -112,14 +112,6 @@ Ends at (x ∷ r) = (x .0 .start + x .0 .len ≡ at + 8 + sepLength (x .0 .len))
 
 abbrev ScanEnds : ℕ → Scan → Type 0
 ScanEnds at f = allPlain (f .rest) ≡ true → Ends at (f .rest)
-
-and-left : (x y : Bool) → (x && y) ≡ true → x ≡ true
-and-left true y p = refl
-and-left false y p = p
-
-and-right : (x y : Bool) → (x && y) ≡ true → y ≡ true
-and-right true y p = p
-and-right false y p = cc
 
 module _ (s : List ℕ) where
   key-ends : (at v start len : ℕ) (plain : Bool) → (plain ≡ true → start + len ≡ at + sepLength len) → HeadEnds at (keyAt s v start len plain)

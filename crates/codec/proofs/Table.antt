@@ -1,8 +1,9 @@
--- 01's known nights on node bytes, marked P: one computed test over a table. Assumes nothing.
+-- 01's known nights on node bytes, marked P: one computed test over a table; and another over a table of the strict reading.
+-- Assumes nothing.
 use mathlib.Core.Path.{_≡_, refl}
 use mathlib.Core.List.{List, [], _∷_, _++_}
 use mathlib.Core.Bool.{Bool, true, false, _&&_}
-use Prim.Native.Nat.{ℕ, _+_}
+use Prim.Native.Nat.{ℕ, zero, suc, _+_}
 use lib.ListN.{length, take, drop, replicate}
 use lib.Dec.{eqb}
 use Rattle.word.specs.Pick.{pick}
@@ -13,6 +14,7 @@ use Rattle.codec.specs.declared.Written.{Written}
 use Rattle.node.specs.declared.Node.{Node}
 use Rattle.node.specs.Chain.{Step, padded, blocks, nodeOf, stepsOf, firstOf}
 use Rattle.codec.specs.Codec.{sized, encodeSep, encodeRest, encode, keyAt, sizeAt, headAt, scanFrom, settle, scan, endingNumber}
+use Rattle.codec.specs.Strict.{strictNumber, isLow, endsAt, strictFrom, strictEnd}
 use Rattle.codec.specs.Layout.{readingOf, anyFirst, writtenOf, leftBy, writtenNumber, writtenLength}
 
 -- a leaf of one key alone, or of none, written into 320 bytes of 7: the number, the length and the bytes from the front on
@@ -67,3 +69,57 @@ nodes =
 pub known-nodes : allHold nodes ≡ true
 unfolding allHold nodes z8 pick part over le un fitsIn readAt sized encodeSep encodeRest encode keyAt sizeAt headAt scanFrom settle scan padded blocks nodeOf readingOf stepsOf firstOf anyFirst writtenOf
 known-nodes = refl
+
+-- ---- the strict reading beside the lenient one: bytes, the lenient number, the strict number and the place
+
+pub record Judged : Type 0 where
+  pub bytes : List ℕ
+  pub lenient : ℕ
+  pub strict : ℕ
+  pub place : ℕ
+
+abbrev judged : List ℕ → ℕ → ℕ → ℕ → Judged
+judged s l n p = record { bytes = s; lenient = l; strict = n; place = p }
+
+pub allJudged : List Judged → Bool
+allJudged [] = true
+allJudged (c ∷ cs) =
+    (eqb (endingNumber (readingOf (c .bytes) .ending)) (c .lenient)
+    && (eqb (strictNumber (strictEnd (c .bytes) .ending)) (c .strict) && eqb (strictEnd (c .bytes) .at) (c .place)))
+    && allJudged cs
+
+five : List ℕ
+five = 5 ∷ replicate 7 0
+
+-- a separator with no key and the child right of it, n times
+short : ℕ → List ℕ
+short zero = []
+short (suc n) = five ++ (0 ∷ (replicate 8 0 ++ short n))
+
+-- the order within a separator, 12, 13, 14, 18, 19, 4, and behind the ninth child 20
+pub strictNodes : List Judged
+unfolding z8 five short
+strictNodes =
+    judged (z8 ++ (five ++ (2 ∷ 97 ∷ 98 ∷ z8))) 0 0 27
+    ∷ judged [] 11 11 0
+    ∷ judged (z8 ++ (five ++ (0 ∷ 1 ∷ 2 ∷ 3 ∷ []))) 11 11 17
+    ∷ judged (z8 ++ (5 ∷ [])) 12 12 8
+    ∷ judged (z8 ++ (five ++ (255 ∷ 1 ∷ []))) 13 13 8
+    -- 0xFF before a short key, which the lenient reading reads; cut short it is 14 for both
+    ∷ judged (z8 ++ (five ++ (255 ∷ 2 ∷ 0 ∷ 0 ∷ 0 ∷ 97 ∷ 98 ∷ z8))) 0 18 8
+    ∷ judged (z8 ++ (five ++ (255 ∷ 2 ∷ 0 ∷ 0 ∷ 0 ∷ 97 ∷ []))) 14 14 8
+    -- a low size hides what is wrong behind it
+    ∷ judged (z8 ++ (five ++ (255 ∷ 1 ∷ 0 ∷ 0 ∷ 0 ∷ 97 ∷ (z8 ++ (5 ∷ []))))) 12 18 8
+    -- value 0: behind its size, before the length of its key
+    ∷ judged (z8 ++ (z8 ++ (0 ∷ []))) 0 19 8
+    ∷ judged (z8 ++ (z8 ++ (255 ∷ 0 ∷ 0 ∷ 0 ∷ 0 ∷ []))) 0 18 8
+    ∷ judged (z8 ++ (z8 ++ (255 ∷ 33 ∷ 1 ∷ 0 ∷ 0 ∷ replicate 289 1))) 0 19 8
+    ∷ judged (z8 ++ (five ++ (255 ∷ 33 ∷ 1 ∷ 0 ∷ 0 ∷ replicate 289 1))) 4 4 8
+    -- eight separators, and a byte behind them
+    ∷ judged (z8 ++ short 8) 0 0 144
+    ∷ judged (z8 ++ (short 8 ++ (7 ∷ []))) 0 20 144
+    ∷ []
+
+pub known-strict : allJudged strictNodes ≡ true
+unfolding allJudged strictNodes z8 five short pick part un fitsIn readAt keyAt sizeAt headAt scanFrom settle scan readingOf isLow endsAt strictFrom strictEnd
+known-strict = refl

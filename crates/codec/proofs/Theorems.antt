@@ -25,7 +25,7 @@ use Rattle.node.specs.Chain.{Step, longestKey, FitAll, Writable, valueOf, child
 use Rattle.codec.specs.Codec.{restLength, encode, Standard, isAccepted, endingNumber, isNoByteLeft, Spot, Scan, stop, settle, scanFrom, scan, stepOf, Decoded, refused, accepted, decode}
 use Rattle.codec.specs.Layout.{allPlain, layout, placesOf, readingOf, keyPlace, anyOf, anyFirst, isLong, isNone, writtenOf, leftBy}
 use Rattle.word.proofs.NumLaws.{bytes-part}
-use Rattle.codec.proofs.ScanLaws.{positive, AllLie, AllSmall, scan-lies, scan-sound}
+use Rattle.codec.proofs.ScanLaws.{positive, and-left, and-right, AllLie, AllSmall, scan-lies, scan-sound}
 use Rattle.codec.proofs.EncodeLaws.{length-encode, sep-most, scan-finds}
 use Rattle.node.proofs.ChainLaws.{steps-node, first-node, count-node}
 use Rattle.codec.proofs.LayoutLaws.{node-none-long, node-none-zero}
@@ -216,14 +216,6 @@ standard-same-bytes s d h l = subst (λ (t : List ℕ). SameBytes t d (readingOf
         })
 
 -- ---- the places' flag says exactly that bytes are in standard form
-
-and-left : (x y : Bool) → (x && y) ≡ true → x ≡ true
-and-left true y p = refl
-and-left false y p = p
-
-and-right : (x y : Bool) → (x && y) ≡ true → y ≡ true
-and-right true y p = p
-and-right false y p = cc
 
 spots-fit : (s : List ℕ) → Bytes s → (r : List (Spot × ℕ)) → AllLie s r → AllSmall r → FitAll (map (stepOf s) r)
 spots-fit s b [] h m = tt

@@ -22,11 +22,15 @@ abbrev pub allPlain : List (Spot × ℕ) → Bool
 allPlain [] = true
 allPlain (x ∷ r) = x .0 .plain && allPlain r
 
+-- whether what was scanned is all in standard form
+abbrev pub isWhole : Scan → Bool
+isWhole r = allPlain (r .rest) && isNoByteLeft (r .ending)
+
 -- the places of what was scanned, as `nodeOf` has the node of a chain
 unfoldable pub layout : Scan → Places
 layout r = record {
   ending = r .ending;
-  standard = allPlain (r .rest) && isNoByteLeft (r .ending);
+  standard = isWhole r;
   count = length (r .rest);
   children = padded 9 (childOf 0) (childOf (r .first) ∷ map (λ (x : Spot × ℕ). childOf (x .1)) (r .rest));
   values = padded 8 (valueOf 0) (map (λ (x : Spot × ℕ). valueOf (x .0 .value)) (r .rest));

@@ -8,6 +8,7 @@ ghost use Rattle.word.specs.At.{copyAt};
 ghost use Rattle.word.specs.Part.{part};
 ghost use Rattle.codec.specs.Codec.{headAt, keyAt, endingNumber, isAccepted, isNoByteLeft, sepLength};
 ghost use Rattle.codec.specs.Layout.{placesOf, readingOf, keyPlace, anyFirst, isLong, isNone, writtenOf, leftBy, writtenNumber, writtenLength};
+ghost use Rattle.codec.specs.Strict.{endNumber, strictNumber, isLow, endsAt, strictFrom, strictEnd, standardOf, strictReading};
 ghost use Rattle.codec.specs.Mirror.{emptyPlaces, endedWith, measured, putSep};
 ghost use Rattle.codec.specs.Splice.{spliceIn};
 use node::Child;
@@ -51,6 +52,25 @@ pub struct Places {
     pub lens: [usize; 8],
 }
 
+// How a strict reading ended: at a long size below 255, or as a lenient one, whose first ending alone is accepted.
+pub enum Strict {
+    LowSize,
+    EndsIn(Ending),
+}
+
+// How a strict reading ended, and where the child or the separator begins that it refuses, or the first byte too many; where it
+// refuses nothing, the end of the bytes.
+pub struct Stopped {
+    pub ending: Strict,
+    pub at: usize,
+}
+
+pub struct StrictReading {
+    pub ending: Strict,
+    pub at: usize,
+    pub node: Node,
+}
+
 pub struct Reading {
     pub ending: Ending,
     pub node: Node,
@@ -87,6 +107,22 @@ impl Ending {
         self.number() == 0
     }
 
+    // The number that a strict reading has for it.
+    fn end_number(self) -> u32
+        ensures { λ r. ⌜ r ≡ endNumber self ⌝ }
+    {
+        match self {
+            Ending::NoByteLeft => 0,
+            Ending::BytesIgnored => 20,
+            Ending::ZeroValue => 19,
+            Ending::ShortChild => 11,
+            Ending::ShortHead => 12,
+            Ending::ShortSize => 13,
+            Ending::ShortKey => 14,
+            Ending::LongKey => 4,
+        }
+    }
+
     pub fn is_no_byte_left(self) -> bool
         ensures { λ r. ⌜ r ≡ isNoByteLeft self ⌝ }
     {
@@ -99,6 +135,18 @@ impl Ending {
             Ending::ShortSize => false,
             Ending::ShortKey => false,
             Ending::LongKey => false,
+        }
+    }
+}
+
+impl Strict {
+    // 01's number, and 18 to 20.
+    pub fn number(self) -> u32
+        ensures { λ r. ⌜ r ≡ strictNumber self ⌝ }
+    {
+        match self {
+            Strict::LowSize => 18,
+            Strict::EndsIn(ending) => ending.end_number(),
         }
     }
 }
@@ -275,6 +323,17 @@ impl Places {
         }
         places.ended(Ending::BytesIgnored, 8)
     }
+
+    // The places of bytes in standard form; of others those of no bytes, which are refused.
+    pub fn read_standard(s: &[u8]) -> Places
+        ensures { λ r. ⌜ r ≡ placesOf (standardOf (now (s .entry))) ⌝ }
+    {
+        let places = Places::read(s);
+        if !places.standard {
+            return Places::read(&s[0..0]);
+        }
+        places
+    }
 }
 
 // A part of the node bytes to a place of the keys, where both have the bytes; else nothing.
@@ -284,10 +343,11 @@ fn put_key(keys: &mut [u8; 2304], at: usize, s: &[u8], start: usize, len: usize)
     word::copy(keys, at, s, start, len);
 }
 
-pub fn read(s: &[u8]) -> Reading
+// The reading of the bytes whose places these are: their keys are copied.
+fn with_keys(s: &[u8], places: Places) -> Reading
+    requires { ⌜ places ≡ placesOf (now s) ⌝ }
     ensures { λ r. ⌜ r ≡ readingOf (now (s .entry)) ⌝ }
 {
-    let places = Places::read(s);
     let count = places.count;
     let children = places.children;
     let values = places.values;
@@ -312,6 +372,13 @@ pub fn read(s: &[u8]) -> Reading
     reading
 }
 
+pub fn read(s: &[u8]) -> Reading
+    ensures { λ r. ⌜ r ≡ readingOf (now (s .entry)) ⌝ }
+{
+    let places = Places::read(s);
+    with_keys(s, places)
+}
+
 // The key of a separator, as a part of the node bytes; empty where there is none.
 pub fn key(s: &[u8], index: Index) -> &[u8]
     ensures { λ r. ⌜ now r ≡ part (now (s .entry)) (keyPlace (now (s .entry)) (index .0) .start) (keyPlace (now (s .entry)) (index .0) .len) ⌝ }
@@ -324,6 +391,139 @@ pub fn key(s: &[u8], index: Index) -> &[u8]
         return &s[start..end];
     }
     &s[0..0]
+}
+
+// ---- the strict reading
+
+// Whether 0xFF and a length below 255 stand in the separator at a place.
+fn is_low(s: &[u8], at: usize) -> bool
+    ensures { λ r. ⌜ r ≡ isLow (now (s .entry)) at ⌝ }
+{
+    if !word::fits(s.len(), at, 13) {
+        return false;
+    }
+    if s[at + 8] < 255 {
+        return false;
+    }
+    !is_long_size(word::read_u32(s, at + 9))
+}
+
+fn ends_at(s: &[u8], at: usize, ending: Ending) -> Strict
+    ensures { λ r. ⌜ r ≡ endsAt (now (s .entry)) at ending ⌝ }
+{
+    if ending.end_number() == 19 {
+        if is_low(s, at) {
+            return Strict::LowSize;
+        }
+    }
+    Strict::EndsIn(ending)
+}
+
+// How a strict reading ends, and where; it builds no places.
+pub fn strict_end(s: &[u8]) -> Stopped
+    ensures { λ r. ⌜ r ≡ strictEnd (now (s .entry)) ⌝ }
+{
+    let mut at: usize = 0;
+    let mut i: usize = 0;
+    while i < 8 {
+        if !word::fits(s.len(), at, 8) {
+            return Stopped {
+                ending: Strict::EndsIn(Ending::ShortChild),
+                at: at,
+            };
+        }
+        at += 8;
+        if at == s.len() {
+            return Stopped {
+                ending: Strict::EndsIn(Ending::NoByteLeft),
+                at: at,
+            };
+        }
+        let head = read_separator(s, at);
+        match head {
+            Head::Ended(ending) => {
+                return Stopped {
+                    ending: ends_at(s, at, ending),
+                    at: at,
+                };
+            }
+            Head::Separator {
+                value,
+                start,
+                len,
+                plain,
+            } => {
+                if !plain {
+                    return Stopped {
+                        ending: Strict::LowSize,
+                        at: at,
+                    };
+                }
+                at = start + len;
+            }
+        }
+        i += 1;
+    }
+    last_child(s, at)
+}
+
+// The ninth child, behind which no byte may follow.
+fn last_child(s: &[u8], at: usize) -> Stopped
+    ensures { λ r. ⌜ r ≡ strictFrom (now (s .entry)) 0 at ⌝ }
+{
+    if !word::fits(s.len(), at, 8) {
+        return Stopped {
+            ending: Strict::EndsIn(Ending::ShortChild),
+            at: at,
+        };
+    }
+    let end = at + 8;
+    if end == s.len() {
+        return Stopped {
+            ending: Strict::EndsIn(Ending::NoByteLeft),
+            at: end,
+        };
+    }
+    Stopped {
+        ending: Strict::EndsIn(Ending::BytesIgnored),
+        at: end,
+    }
+}
+
+// The reading of bytes in standard form; of others that of no bytes, which is refused.
+pub fn read_standard(s: &[u8]) -> Reading
+    ensures { λ r. ⌜ r ≡ readingOf (standardOf (now (s .entry))) ⌝ }
+{
+    let places = Places::read(s);
+    if !places.standard {
+        return read(&s[0..0]);
+    }
+    with_keys(s, places)
+}
+
+pub fn read_strict(s: &[u8]) -> StrictReading
+    ensures { λ r. ⌜ r ≡ strictReading (now (s .entry)) ⌝ }
+{
+    let stopped = strict_end(s);
+    let ending = stopped.ending;
+    let reading = read_standard(s);
+    let node = reading.node;
+    StrictReading {
+        ending: ending,
+        at: stopped.at,
+        node: node,
+    }
+}
+
+// As `key`, and empty where the strict reading refuses.
+pub fn key_strict(s: &[u8], index: Index) -> &[u8]
+    ensures { λ r. ⌜ now r ≡ part (now (s .entry)) (keyPlace (standardOf (now (s .entry))) (index .0) .start) (keyPlace (standardOf (now (s .entry))) (index .0) .len) ⌝ }
+{
+    let places = Places::read(s);
+    if !places.standard {
+        return &s[0..0];
+    }
+    key(s, index)
 }
 
 // How many bytes a separator with a key of len bytes takes.

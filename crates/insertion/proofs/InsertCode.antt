@@ -1,38 +1,33 @@
--- Each way through this crate's functions (a law NAME-k is of the k-th return): what the code does with a node's struct is
--- what the mirrors (Mirror and RunMirror of `outcome`) do with its chain. Assumes nothing.
+-- Each way through a split, a new root, the empty root and the room test (a law NAME-k is of the k-th return): what the code
+-- does with a node's struct is what the mirrors (Mirror and RunMirror of `outcome`) do with its chain. Assumes nothing.
 use mathlib.Core.Path.{_≡_, refl, sym, ap, subst, _∙_}
-use mathlib.Core.List.{List, [], _∷_, _++_}
-use mathlib.Core.Bool.{Bool, true, false, cond, not}
+use mathlib.Core.List.{List, [], _∷_}
+use mathlib.Core.Bool.{true, false, cond, not}
 use mathlib.Core.Option.{none, some}
-use Prim.Native.Nat.{ℕ, zero, suc, _+_, _-_, _^_, _≤_, _<_}
-use lib.ListN.{length, take, drop, getD, length-take, length-drop, List·getD-eq-default}
-use lib.Seq.{take-all, drop-cons}
+use Prim.Native.Nat.{ℕ, suc, _+_, _-_, _^_, _≤_, _<_}
+use lib.ListN.{length, take, drop, length-take, length-drop}
+use lib.Seq.{drop-cons}
 use lib.Dec.{leb, eqb}
 use native.Mathlib.Omega.{arith}
-use borrow.Author.Tests.{not-true, not-false, le-leb, lt-leb, eq-eqb, ne-eqb}
+use borrow.Author.Tests.{le-leb, lt-leb, eq-eqb, ne-eqb}
 use Rattle.word.specs.Key.{Key}
-use Rattle.word.specs.Num.{Bytes}
 use Rattle.tree.specs.Map.{Sep}
 use Rattle.tree.specs.Tree.{Node, at, below}
 use Rattle.node.specs.declared.Child.{Child}
-use Rattle.node.specs.declared.Value.{Value}
 use Rattle.node.specs.declared.Node as struct
-use Rattle.codec.specs.declared.Reading.{Reading}
 use Rattle.node.specs.declared.Separator.{Separator}
 use Rattle.node.specs.declared.edit.Halves.{Halves}
 use Rattle.node.specs.Chain.{Step, Fit, FitAll, Writable, childOf, nodeOf}
-use Rattle.codec.specs.Codec.{isAccepted}
-use Rattle.node.specs.Edit.{separatorOf, inserted, insertAt, valueAt, childAt, stepAt, parted, halves, halvesFrom}
-use Rattle.node.specs.EditMirror.{withValue, withChild, splitAt}
+use Rattle.node.specs.Edit.{separatorOf, inserted, insertAt, childAt, stepAt, parted, halves, halvesFrom}
+use Rattle.node.specs.EditMirror.{withChild, splitAt}
 use Rattle.node.specs.EditMirror as structs
 use Rattle.node.proofs.ChainLaws.{Short}
-use Rattle.node.proofs.ArrayLaws.{drop-past}
-use Rattle.node.proofs.EditLaws.{node-set-value, node-set-child, node-insert, node-split, length-more, fit-take, fit-drop, fit-insert, fit-change}
+use Rattle.node.proofs.EditLaws.{node-set-child, node-insert, node-split, length-more, fit-take, fit-drop, fit-insert}
 use Rattle.slots.specs.Limits.{mostDepth}
 use Rattle.slots.specs.Layout.{rootOf, depthOf}
 use Rattle.slots.specs.Mirror.{writeNode, takeSlot, setRoot}
-use Rattle.slots.specs.Code.{slotOf, firstIn, restIn, nodeIn, readingAt, readNodeAt, writtenIn}
-use Rattle.slots.proofs.CodeLaws.{node-in, writable-in, accepted-slot, accepted-at, refused-at, written-chain}
+use Rattle.slots.specs.Code.{restIn, nodeIn, readNodeAt, writtenIn}
+use Rattle.slots.proofs.CodeLaws.{written-chain}
 use Rattle.outcome.specs.declared.Came as code
 use Rattle.outcome.specs.declared.Came.the-variants.{Bad, Plain, Split, Low}
 use Rattle.outcome.specs.declared.Outcome.{Outcome}
@@ -42,10 +37,9 @@ use Rattle.search.specs.declared.Turn.the-variants.{NotBelow}
 use Rattle.search.specs.declared.Sight.{Sight}
 use Rattle.slots.specs.Search.{SawAt}
 use Rattle.outcome.specs.Mirror as M
-use Rattle.outcome.specs.Mirror.{inTwo, splitM, placeM, insertedAt, insertNodeM, revalued, setValueM, growM}
+use Rattle.outcome.specs.Mirror.{inTwo, splitM, placeM, insertedAt, growM}
 use Rattle.outcome.specs.RunMirror.{needM, wholeM, slotsNeededM, startM}
 use Rattle.outcome.specs.Outcome.{outcomeWith, outcomeOf, ofCame, ofNeed, FitCame, Makes}
-use Rattle.outcome.proofs.ReadPlaces.{count-of}
 use Rattle.outcome.proofs.ReadSight.{sight-refused, sight-read, sight-count, sight-at, sight-child}
 
 short : (r : List Step) → FitAll r → Short r
@@ -63,10 +57,10 @@ place-nine s x c l h =
     rw (lt-leb (length l) 8 (omega arith), e)
 
 module _ (s : List ℕ) (x i : ℕ) (child : Child) (c : ℕ) (q : List Step) (e : Sep ℕ) (fine : Writable c q) (full : length q ≡ 8) (there : i ≤ 8) (fit : Fit e) where
-  abbrev pub grown : List Step
+  abbrev grown : List Step
   grown = insertAt i (e, child .0) q
 
-  pub placed : placeM s (insertedAt i e (child .0) (record { slot = x; first = c; rest = q })) ≡ inTwo (record { slot = x; first = c; rest = grown }) (stepAt 4 grown) (drop 5 grown) (takeSlot s)
+  placed : placeM s (insertedAt i e (child .0) (record { slot = x; first = c; rest = q })) ≡ inTwo (record { slot = x; first = c; rest = grown }) (stepAt 4 grown) (drop 5 grown) (takeSlot s)
   unfolding inserted
   placed = place-nine s x c grown (length-more q i (e, child .0) (omega arith) ∙ omega arith)
 
@@ -76,16 +70,16 @@ module _ (s : List ℕ) (x i : ℕ) (child : Child) (c : ℕ) (q : List Step) (e
   fit-grown : child .0 < 2 ^ 64 → FitAll grown
   fit-grown small = fit-insert i (e, child .0) q fit small (fine .rest)
 
-  pub left-writable : child .0 < 2 ^ 64 → Writable c (take 4 grown)
+  left-writable : child .0 < 2 ^ 64 → Writable c (take 4 grown)
   left-writable small = record { first = fine .first; rest = fit-take 4 grown (fit-grown small); most = omega (arith, length-take 4 grown) }
 
-  pub fit-right : child .0 < 2 ^ 64 → FitAll (stepAt 4 grown ∷ drop 5 grown)
+  fit-right : child .0 < 2 ^ 64 → FitAll (stepAt 4 grown ∷ drop 5 grown)
   unfolding stepAt
   fit-right small =
       let l = length-more q i (e, child .0) (omega arith) in
       subst FitAll (drop-cons grown 4 (record { key = []; val = 0 }, 0) (omega arith)) (fit-drop 4 grown (fit-grown small))
 
-  pub right-writable : child .0 < 2 ^ 64 → Writable (stepAt 4 grown .1) (drop 5 grown)
+  right-writable : child .0 < 2 ^ 64 → Writable (stepAt 4 grown .1) (drop 5 grown)
   right-writable small =
       let l = length-more q i (e, child .0) (omega arith) in
       let f = fit-right small in
@@ -104,7 +98,7 @@ right-half : (i : ℕ) (x : Step) (c : ℕ) (q : List Step) → halvesFrom (halv
 unfolding halves parted
 right-half i x c q = refl
 
-abbrev SplitsTo : List ℕ → ℕ → struct.Node → ℕ → Separator → Child → Outcome → List ℕ → Type 0
+abbrev pub SplitsTo : List ℕ → ℕ → struct.Node → ℕ → Separator → Child → Outcome → List ℕ → Type 0
 SplitsTo s x node i sep child r t =
     (c : ℕ) (q : List Step) (e : Sep ℕ) → node ≡ nodeOf c q → Writable c q → length q ≡ 8 → i ≤ 8 → sep ≡ separatorOf e → Fit e
     → Makes (placeM s (insertedAt i e (child .0) (record { slot = x; first = c; rest = q }))) r t
@@ -129,131 +123,6 @@ module _ (s : List ℕ) (x : ℕ) (node : struct.Node) (i : ℕ) (sep : Separato
       b ∙ ap (λ (y : Halves). writtenIn u right (y .right)) halved ∙ rw (right-half i (e, child .0) c q, took) (written-chain u _ (stepAt 4 l .1) (drop 5 l) (right-writable s x i child c q e w full there f small)) in
       let mid : both .middle ≡ separatorOf (stepAt 4 l .0) = ap (λ (y : Halves). y .middle) halved ∙ middle-half i (e, child .0) c q in
       rw (placed s x i child c q e w full there f, z) (rw (mid, took) refl, wr ∙ rw wl, fit-right s x i child c q e w full there f small .0)
-
--- another value at an index, as the chain before it, itself and the rest
-valued : (i v : ℕ) (r : List Step) → valueAt i v r ≡ take i r ++ revalued v (drop i r)
-unfolding valueAt
-valued zero v [] = refl
-valued (suc i) v [] = refl
-valued zero v (x ∷ r) = refl
-valued (suc i) v (x ∷ r) = ap (λ (l : List Step). x ∷ l) (valued i v r)
-
-length-valued : (i v : ℕ) (r : List Step) → length (valueAt i v r) ≡ length r
-unfolding valueAt
-length-valued zero v [] = refl
-length-valued (suc i) v [] = refl
-length-valued zero v (x ∷ r) = refl
-length-valued (suc i) v (x ∷ r) = ap suc (length-valued i v r)
-
-fit-valued : (i v : ℕ) (r : List Step) → 0 < v → v < 2 ^ 64 → FitAll r → FitAll (valueAt i v r)
-unfolding valueAt
-fit-valued i v r k small f = fit-change i (λ (x : Step). (record { key = x .0 .key; val = v }, x .1)) r (λ x y z. (record { bytes = y .bytes; short = y .short; there = k; small = small }, z)) f
-
--- ---- a node read anew
-
-module _ (s : List ℕ) (x d : ℕ) {g : Reading} (read : g ≡ readingAt d s x) {b : Bool} (tested : b ≡ isAccepted (g .ending)) where
-  refused : not b ≡ true → readNodeAt d s x ≡ none
-  refused h = refused-at s x d (ap (λ (y : Reading). isAccepted (y .ending)) (sym read) ∙ sym tested ∙ not-true b h)
-
-  record Stood : Type 0 where
-    found : readNodeAt d s x ≡ some (nodeIn s x)
-    node : g .node ≡ nodeOf (firstIn s x) (restIn s x)
-    count : g .node .count ≡ length (restIn s x)
-    slot : slotOf s x ≡ x
-
-  stood : not b ≡ false → Stood
-  stood h =
-      let y : isAccepted (readingAt d s x .ending) ≡ true = ap (λ (y : Reading). isAccepted (y .ending)) (sym read) ∙ sym tested ∙ not-false b h in
-      let a = accepted-at s x d y in
-      let n : g .node ≡ nodeOf (firstIn s x) (restIn s x) = ap (λ (y : Reading). y .node) (read ∙ a .reading) ∙ node-in s x in
-      record {
-        found = a .found;
-        node = n;
-        count = ap (λ (y : struct.Node). y .count) n ∙ count-of (firstIn s x) (restIn s x);
-        slot = accepted-slot s x (ap (λ (y : Reading). isAccepted (y .ending)) (sym (a .reading)) ∙ y) .1;
-      }
-
-  module _ (i : ℕ) (sep : Separator) (right : Child) where
-    abbrev InsertsTo : Outcome → List ℕ → Type 0
-    InsertsTo r t = (e : Sep ℕ) → sep ≡ separatorOf e → Fit e → Makes (insertNodeM d s x i e (right .0)) r t
-
-    pub insert-1 : {r : Outcome} → not b ≡ true → r ≡ outcomeOf Bad → InsertsTo r s
-    unfolding insertNodeM
-    insert-1 h p e k f = rw (refused h) (p, refl, tt)
-
-    pub insert-2 : {r : Outcome} → not b ≡ false → g .node .count < i → r ≡ outcomeOf Bad → InsertsTo r s
-    unfolding insertNodeM
-    insert-2 h l p e k f =
-        let a = stood h in
-        let z : leb i (length (restIn s x)) ≡ false = lt-leb i (length (restIn s x)) (omega (arith, a .count)) in
-        rw (a .found, z) (p, refl, tt)
-
-    -- the node at an index that it has
-    inside : not b ≡ false → i ≤ g .node .count → (e : Sep ℕ) → insertNodeM d s x i e (right .0) ≡ placeM s (insertedAt i e (right .0) (nodeIn s x))
-    unfolding insertNodeM
-    inside h l e =
-        let a = stood h in
-        let z : leb i (length (restIn s x)) ≡ true = le-leb i (length (restIn s x)) (omega (arith, a .count)) in
-        rw (a .found, z)
-
-    pub insert-3 : {y : ℕ} {r : Outcome} {t : List ℕ} → Bytes s → not b ≡ false → i ≤ g .node .count → y ≡ slotOf s x → 7 < g .node .count
-        → SplitsTo s y (g .node) i sep right r t → InsertsTo r t
-    insert-3 {r = r} {t = t} small h l p m split e k f =
-        let a = stood h in
-        let w = writable-in s x small in
-        let full : length (restIn s x) ≡ 8 = omega (arith, w .most, a .count) in
-        let made = split (firstIn s x) (restIn s x) e (a .node) w full (omega (arith, a .count)) k f in
-        rw (inside h l e) (subst (λ (v : ℕ). Makes (placeM s (insertedAt i e (right .0) (record { slot = v; first = firstIn s x; rest = restIn s x }))) r t) (p ∙ a .slot) made)
-
-    pub insert-4 : {y : ℕ} {n : struct.Node} {r : Outcome} {t : List ℕ} → Bytes s → right .0 < 2 ^ 64 → not b ≡ false → i ≤ g .node .count → y ≡ slotOf s x → g .node .count ≤ 7
-        → n ≡ structs.insertedAt (g .node) i sep right → t ≡ writtenIn s y n → r ≡ outcomeOf Plain → InsertsTo r t
-    unfolding placeM inserted
-    insert-4 {y} {n} {t = t} small rs h l p m made wrote out e k f =
-        let a = stood h in
-        let w = writable-in s x small in
-        let r : List Step = restIn s x in
-        let c : ℕ = firstIn s x in
-        let more = length-more r i (e, right .0) (omega (arith, a .count)) in
-        let z : leb (length (insertAt i (e, right .0) r)) 8 ≡ true = le-leb (length (insertAt i (e, right .0) r)) 8 (omega (arith, a .count)) in
-        let edited : n ≡ nodeOf c (insertAt i (e, right .0) r) = made ∙ rw (a .node, k) (node-insert c r (w .most) (short r (w .rest)) i (e, right .0) (f .short) (omega (arith, a .count)) (omega (arith, a .count))) in
-        let fine : Writable c (insertAt i (e, right .0) r) = record { first = w .first; rest = fit-insert i (e, right .0) r f rs (w .rest); most = omega (arith, a .count) } in
-        let written : t ≡ writeNode s (record { slot = x; first = c; rest = insertAt i (e, right .0) r }) = wrote ∙ rw (p ∙ a .slot, edited) (written-chain s x c (insertAt i (e, right .0) r) fine) in
-        rw (inside h l e, z) (out, written, tt)
-
-  -- ---- another value
-
-  module _ (i : ℕ) (value : Value) where
-    abbrev SetsTo : Outcome → List ℕ → Type 0
-    SetsTo r t = 0 < value .0 → Makes (setValueM i (value .0) x s (readNodeAt d s x)) r t
-
-    pub value-1 : {r : Outcome} → not b ≡ true → r ≡ outcomeOf Bad → SetsTo r s
-    value-1 h p k = rw (refused h) (p, refl, tt)
-
-    -- where there is no such separator the node is written as it was read
-    pub value-2 : {y : ℕ} {r : Outcome} {t : List ℕ} → Bytes s → not b ≡ false → y ≡ slotOf s x → g .node .count ≤ i → t ≡ writtenIn s y (g .node) → r ≡ outcomeOf Plain → SetsTo r t
-    value-2 {t = t} small h p l wrote out k =
-        let a = stood h in
-        let r : List Step = restIn s x in
-        let e : take i r ≡ r = take-all i r (omega (arith, a .count)) in
-        let z : drop i r ≡ [] = drop-past r i (omega (arith, a .count)) in
-        let written : t ≡ writeNode s (nodeIn s x) = wrote ∙ rw (p ∙ a .slot, a .node) (written-chain s x (firstIn s x) r (writable-in s x small)) in
-        rw (a .found, z, e) (out, written ∙ rw (append-none r), tt)
-      where
-        append-none : (l : List Step) → l ++ [] ≡ l
-        append-none [] = refl
-        append-none (y ∷ l) = ap (λ (m : List Step). y ∷ m) (append-none l)
-
-    pub value-3 : {y : ℕ} {n : struct.Node} {r : Outcome} {t : List ℕ} → Bytes s → value .0 < 2 ^ 64 → not b ≡ false → y ≡ slotOf s x → i < g .node .count
-        → n ≡ withValue (g .node) i value → t ≡ writtenIn s y n → r ≡ outcomeOf Plain → SetsTo r t
-    value-3 {y} {n} {t = t} small vs h p l made wrote out k =
-        let a = stood h in
-        let w = writable-in s x small in
-        let r : List Step = restIn s x in
-        let c : ℕ = firstIn s x in
-        let edited : n ≡ nodeOf c (valueAt i (value .0) r) = made ∙ rw (a .node) (node-set-value c r (w .most) i (value .0) (omega (arith, a .count))) in
-        let fine : Writable c (valueAt i (value .0) r) = record { first = w .first; rest = fit-valued i (value .0) r k vs (w .rest); most = omega (arith, length-valued i (value .0) r, w .most) } in
-        let written : t ≡ writeNode s (record { slot = x; first = c; rest = valueAt i (value .0) r }) = wrote ∙ rw (p ∙ a .slot, edited) (written-chain s x c (valueAt i (value .0) r) fine) in
-        rw (a .found) (out, rw (sym (valued i (value .0) r)) written, tt)
 
 -- ---- the root
 
@@ -348,9 +217,6 @@ module _ (s : List ℕ) {root : ℕ} (there : root ≡ rootOf s) where
         rw (none-there, z) (set ∙ rw (written, took))
 
 -- ---- the room test
-
-pub no-child : (l : List Child) (i : ℕ) → length l ≡ 9 → 8 < i → childOf 0 ≡ getD l i (childOf 0)
-no-child l i e h = let g : length l ≤ i = omega arith in sym (List·getD-eq-default l (childOf 0) g)
 
 module _ (s : List ℕ) (k : Key) (d x run : ℕ) {v : Sight} (saw : SawAt NotBelow d s x k v) where
   need-bad : not (v .good) ≡ true → needM k (suc d) s x run ≡ none

@@ -25,7 +25,58 @@ ghost use Rattle.outcome.specs.Mirror as M;
 ghost use Rattle.outcome.specs.Mirror.{insertedAt, placeM, insertNodeM, setValueM, growM};
 ghost use Rattle.outcome.specs.RunMirror.{startM, slotsNeededM};
 ghost use Rattle.outcome.specs.Outcome.{ofCame, ofNeed, FitCame, Makes};
-ghost use Rattle.insertion.specs.Short.{goesShort, EndWithin, SplitsShort, PutsShort};
+ghost use Rattle.insertion.specs.Insertion.{isNodeOf, takesAt, hasAt, EndWithin, SplitsFull, TakesIn};
+
+// ---- what a node is asked before it is changed
+
+// Whether the places are those of a node of this depth. Refused bytes have no child, so they pass the child test of a leaf.
+fn is_node(places: Places, depth: u32) -> bool
+    ensures { λ r. ⌜ r ≡ isNodeOf depth places ⌝ }
+{
+    let children = places.children;
+    if !slots::fits_depth(children, places.count, depth) {
+        return false;
+    }
+    let ending = places.ending;
+    ending.is_accepted()
+}
+
+// Whether that node takes a separator with a key of so many bytes at an index.
+fn takes(places: Places, depth: u32, i: Index, len: usize) -> bool
+    ensures { λ r. ⌜ r ≡ takesAt places depth (i .0) len ⌝ }
+{
+    if places.count < i.0 {
+        return false;
+    }
+    if 288 < len {
+        return false;
+    }
+    is_node(places, depth)
+}
+
+// Whether that node has a separator at an index.
+fn has_separator(places: Places, depth: u32, i: Index) -> bool
+    ensures { λ r. ⌜ r ≡ hasAt places depth (i .0) ⌝ }
+{
+    if places.count <= i.0 {
+        return false;
+    }
+    is_node(places, depth)
+}
+
+// Where the separator at an index begins in the bytes that the places were read from.
+fn place_of(places: Places, i: Index) -> usize
+    requires { ⌜ (i .0 ≤ 8) × EndWithin places ⌝ }
+    ensures { λ r. ⌜ r ≡ spliceAt places (i .0) ⌝ }
+{
+    let starts = places.starts;
+    let lens = places.lens;
+    if i.0 == 0 {
+        return 8;
+    }
+    let before = i.0 - 1;
+    starts[before] + lens[before] + 8
+}
 
 // ---- a separator taken in by the node above
 
@@ -57,89 +108,39 @@ fn split_node(
     }
 }
 
-// ---- the same among the node's bytes, with no node read and written
-
-// Whether a separator with a key of so many bytes goes in among the bytes that the places were read from: they are in standard
-// form, have the index, and are a node of this depth.
-fn goes_short(places: Places, depth: u32, i: Index, len: usize) -> bool
-    ensures { λ r. ⌜ r ≡ goesShort places depth (i .0) len ⌝ }
-{
-    if !places.standard {
-        return false;
-    }
-    if places.count < i.0 {
-        return false;
-    }
-    if 288 < len {
-        return false;
-    }
-    let children = places.children;
-    slots::fits_depth(children, places.count, depth)
-}
-
-// Where the separator at an index begins in the bytes that the places were read from.
-fn place_of(places: Places, i: Index) -> usize
-    requires { ⌜ (i .0 ≤ 8) × EndWithin places ⌝ }
-    ensures { λ r. ⌜ r ≡ spliceAt places (i .0) ⌝ }
-{
-    let starts = places.starts;
-    let lens = places.lens;
-    if i.0 == 0 {
-        return 8;
-    }
-    let before = i.0 - 1;
-    starts[before] + lens[before] + 8
-}
-
-// A full node with one separator more, put in at a place of its bytes, in two slots; bad where no second one is free. A reading
-// of the nine finds the first eight: the bytes are cut before and behind the fifth.
-fn split_short(
+// The full node of a child with one separator more, in two slots.
+fn split_full(
     store: &mut [u8],
     child: Child,
-    place: usize,
+    i: Index,
     key: &[u8],
     value: Value,
     right: Child,
 ) -> Outcome
-    ensures { λ r. ⌜ SplitsShort (now (store .entry)) (child .0) place (record { key = now (key .entry); val = value .0 }) (right .0) r (now (store .exit)) ⌝ }
+    ensures { λ r. ⌜ SplitsFull (now (store .entry)) (child .0) (i .0) (record { key = now (key .entry); val = value .0 }) (right .0) r (now (store .exit)) ⌝ }
 {
-    let mut nine = [0u8; 2816];
-    let old = slots::copy_bytes(store, child, &mut nine);
-    let len = codec::splice(&mut nine, old, place, key, value, right);
-    let places = Places::read(&nine[0..len]);
-    let at = place_of(places, Index(4));
-    let start = places.starts[4];
-    let to = start + places.lens[4];
-    let between = places.values[4];
-    let middle = Separator::new(&nine[start..to], between);
+    let reading = slots::read_node(store, child);
+    let node = reading.node;
     let slot = slots::slot_of(store, child);
-    let free = slots::take_slot(store);
-    if free.0 == 0 {
-        return Outcome::of(Came::Bad);
-    }
-    slots::write_bytes(store, slot, &nine[0..at]);
-    slots::write_bytes(store, free, &nine[to..len]);
-    Outcome {
-        came: Came::Split,
-        right: free,
-        separator: middle,
-    }
+    split_node(store, slot, node, i, Separator::new(key, value), right)
 }
 
-// A separator and the child right of it put in at a place of the bytes of a node with so many separators.
-fn insert_short(
+// A separator and the child right of it taken in by a node with so many separators, at a place among its bytes; one that is full
+// is split.
+fn take_in(
     store: &mut [u8],
     child: Child,
     count: usize,
+    i: Index,
     place: usize,
     key: &[u8],
     value: Value,
     right: Child,
 ) -> Outcome
-    ensures { λ r. ⌜ PutsShort (now (store .entry)) (child .0) count place (record { key = now (key .entry); val = value .0 }) (right .0) r (now (store .exit)) ⌝ }
+    ensures { λ r. ⌜ TakesIn (now (store .entry)) (child .0) count (i .0) place (record { key = now (key .entry); val = value .0 }) (right .0) r (now (store .exit)) ⌝ }
 {
     if 7 < count {
-        return split_short(store, child, place, key, value, right);
+        return split_full(store, child, i, key, value, right);
     }
     let slot = slots::slot_of(store, child);
     slots::insert_bytes(store, slot, place, key, value, right);
@@ -148,35 +149,7 @@ fn insert_short(
 
 // ---- a separator and the child right of it at an index of the node in a slot
 
-// The node is read anew: what was called below it has written meanwhile.
-fn insert_long(
-    store: &mut [u8],
-    child: Child,
-    depth: u32,
-    i: Index,
-    sep: Separator,
-    right: Child,
-) -> Outcome
-    ensures { λ r. ⌜ ((e : Sep ℕ) → sep ≡ separatorOf e → Fit e → Makes (insertNodeM depth (now (store .entry)) (child .0) (i .0) e (right .0)) r (now (store .exit))) ⌝ }
-{
-    let reading = slots::read_node_at(store, child, depth);
-    let node = reading.node;
-    let ending = reading.ending;
-    if !ending.is_accepted() {
-        return Outcome::of(Came::Bad);
-    }
-    if node.count < i.0 {
-        return Outcome::of(Came::Bad);
-    }
-    let slot = slots::slot_of(store, child);
-    if 7 < node.count {
-        return split_node(store, slot, node, i, sep, right);
-    }
-    slots::write_node(store, slot, node.insert_at(i, sep, right));
-    Outcome::of(Came::Plain)
-}
-
-// The same, among the node's bytes where they are in standard form.
+// The places are read anew: what was called below the node has written meanwhile.
 pub fn insert_node(
     store: &mut [u8],
     child: Child,
@@ -189,16 +162,17 @@ pub fn insert_node(
 {
     let places = slots::read_places(store, child);
     let len = sep.len;
-    if !goes_short(places, depth, i, len) {
-        return insert_long(store, child, depth, i, sep, right);
+    if !takes(places, depth, i, len) {
+        return Outcome::of(Came::Bad);
     }
     let place = place_of(places, i);
     let key = sep.key;
     let value = sep.value;
-    insert_short(
+    take_in(
         store,
         child,
         places.count,
+        i,
         place,
         &key[0..len],
         value,
@@ -211,42 +185,20 @@ pub fn insert_leaf(store: &mut [u8], child: Child, i: Index, key: &[u8], value: 
     ensures { λ r. ⌜ ((0 < value .0) → length (now (key .entry)) ≤ longestKey → Makes (insertNodeM 0 (now (store .entry)) (child .0) (i .0) (record { key = now (key .entry); val = value .0 }) 0) r (now (store .exit))) ⌝ }
 {
     let places = slots::read_places(store, child);
-    if !goes_short(places, 0, i, key.len()) {
-        return insert_long(store, child, 0, i, Separator::new(key, value), Child(0));
-    }
-    let place = place_of(places, i);
-    insert_short(store, child, places.count, place, key, value, Child(0))
-}
-
-// Another value at index i of a node that is read and written.
-fn set_long(store: &mut [u8], child: Child, depth: u32, i: Index, value: Value) -> Outcome
-    ensures { λ r. ⌜ ((0 < value .0) → Makes (setValueM (i .0) (value .0) (child .0) (now (store .entry)) (readNodeAt depth (now (store .entry)) (child .0))) r (now (store .exit))) ⌝ }
-{
-    let reading = slots::read_node_at(store, child, depth);
-    let node = reading.node;
-    let ending = reading.ending;
-    if !ending.is_accepted() {
+    if !takes(places, 0, i, key.len()) {
         return Outcome::of(Came::Bad);
     }
-    let slot = slots::slot_of(store, child);
-    if node.count <= i.0 {
-        slots::write_node(store, slot, node);
-        return Outcome::of(Came::Plain);
-    }
-    slots::write_node(store, slot, node.set_value(i, value));
-    Outcome::of(Came::Plain)
+    let place = place_of(places, i);
+    take_in(store, child, places.count, i, place, key, value, Child(0))
 }
 
-// "value replaced": among the node's bytes where they are in standard form.
+// "value replaced": among the node's bytes, where it has such a separator.
 pub fn set_value(store: &mut [u8], child: Child, depth: u32, i: Index, value: Value) -> Outcome
     ensures { λ r. ⌜ ((0 < value .0) → Makes (setValueM (i .0) (value .0) (child .0) (now (store .entry)) (readNodeAt depth (now (store .entry)) (child .0))) r (now (store .exit))) ⌝ }
 {
     let places = slots::read_places(store, child);
-    if places.count <= i.0 {
-        return set_long(store, child, depth, i, value);
-    }
-    if !goes_short(places, depth, i, 0) {
-        return set_long(store, child, depth, i, value);
+    if !has_separator(places, depth, i) {
+        return Outcome::of(Came::Bad);
     }
     let place = place_of(places, i);
     let slot = slots::slot_of(store, child);

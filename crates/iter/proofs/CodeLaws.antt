@@ -11,7 +11,8 @@ use native.Mathlib.Omega.{arith}
 use borrow.Author.Tests.{not-true, not-false, le-leb, lt-leb, le-ltb, lt-ltb, ltb-true, ltb-false, eq-eqb, ne-eqb}
 use Rattle.word.specs.Pick.{pick, pickT, pickF, by-test}
 use Rattle.word.specs.Key.{Key}
-use Rattle.word.specs.Part.{part}
+use Rattle.word.specs.Part.{part, over}
+use Rattle.word.proofs.AtLaws.{copyAt-in}
 use Rattle.word.specs.At.{copyAt}
 use Rattle.word.proofs.PartLaws.{length-part, part-whole}
 use Rattle.tree.specs.Map.{Sep}
@@ -32,7 +33,7 @@ use Rattle.node.proofs.EditCode.{keys-part, copy-to-zeros}
 use Rattle.codec.proofs.PositionLaws.{position-finds, position-past}
 use Rattle.slots.specs.Limits.{mostDepth}
 use Rattle.slots.specs.Layout.{isStore, rootOf, depthOf}
-use Rattle.slots.specs.Code.{bytesIn, placesIn, placesAt, firstIn, restIn, nodeIn, readNodeAt}
+use Rattle.slots.specs.Code.{rawIn, bytesIn, placesIn, placesAt, firstIn, restIn, nodeIn, readNodeAt}
 use Rattle.slots.proofs.CodeLaws.{accepted-at, refused-at, ending-at}
 use Rattle.iter.specs.declared.Place.{Place}
 use Rattle.iter.specs.declared.Place.the-variants.{Start, End, At, Seeked}
@@ -586,6 +587,17 @@ pub empty-key : replicate {A = ℕ} 288 0 ≡ padded 288 0 []
 unfolding padded
 empty-key = refl
 
+-- a copy out of a node that was read is one out of the bytes there
+copied-raw : (s : List ℕ) (x start len : ℕ) (d : List ℕ) → start + len ≤ length (bytesIn s x) → copyAt d 0 (rawIn s x) start len ≡ copyAt d 0 (bytesIn s x) start len
+unfolding bytesIn
+copied-raw s x start len d =
+    by-test (λ (b : List ℕ). start + len ≤ length b → copyAt d 0 (rawIn s x) start len ≡ copyAt d 0 b start len) (placesOf (rawIn s x) .standard)
+    (λ e h. refl)
+    (λ e h. let z : start ≡ 0 = omega arith in let n : len ≡ 0 = omega arith in rw (z, n) (none (rawIn s x) ∙ sym (none [])))
+  where
+    none : (b : List ℕ) → copyAt d 0 b 0 0 ≡ over d 0 []
+    none b = unfold part in copyAt-in d 0 b 0 0 (omega arith) (omega arith)
+
 pub copied-key : (b : List ℕ) (start len : ℕ) {o : List ℕ} → start + len ≤ length b → len ≤ longestKey → o ≡ copyAt (replicate 288 0) 0 b start len → o ≡ padded 288 0 (part b start len)
 copied-key b start len h g e = keys-part b start len 288 h g (copy-to-zeros 288 b start len e)
 
@@ -634,12 +646,12 @@ module _ (s : List ℕ) (c : Cursor) (t : Turn) (a : Aim) (p : Place) {b : Bool}
             q ∙ ap (movesIt step.Nothing p) empty-key
             ∙ sym (moves ∙ ap (λ (v : Candidate). movedTo c p (walkedTo s v)) e)
 
-        pub step-entry : {r : Stepped} {x : place.Spot} {bytes o : List ℕ} → w ≡ candidate.At x → bytes ≡ bytesIn s (x .child .0) → o ≡ copyAt (replicate 288 0) 0 bytes (x .start) (x .len)
+        pub step-entry : {r : Stepped} {x : place.Spot} {bytes o : List ℕ} → w ≡ candidate.At x → bytes ≡ rawIn s (x .child .0) → o ≡ copyAt (replicate 288 0) 0 bytes (x .start) (x .len)
             → r ≡ movesIt (step.Entry (x .value)) (At (x .len)) o → r ≡ stepBy s c t a p
         step-entry {r} {x} {bytes} {o} e there copies moved =
             let lies : Lies s (candidate.At x) = subst (Lies s) (sym walks ∙ e) (walk-lies t a (take n (c .key)) s) in
             let k : Key = part (bytesIn s (x .child .0)) (x .start) (x .len) in
-            let q : o ≡ padded 288 0 k = copied-key (bytesIn s (x .child .0)) (x .start) (x .len) (lies .0) (lies .1) (rw there at copies) in
+            let q : o ≡ padded 288 0 k = copied-key (bytesIn s (x .child .0)) (x .start) (x .len) (lies .0) (lies .1) (rw there at copies ∙ copied-raw s (x .child .0) (x .start) (x .len) (replicate 288 0) (lies .0)) in
             let m : x .len ≡ length k = sym (length-part (bytesIn s (x .child .0)) (x .start) (x .len) (lies .0)) in
             moved ∙ (λ i. movesIt (step.Entry (x .value)) (At (m i)) (q i))
             ∙ sym (moves ∙ ap (λ (v : Candidate). movedTo c p (walkedTo s v)) e)

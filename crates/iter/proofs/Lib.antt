@@ -2,3 +2,4 @@ pub mod Walks
 pub mod CursorLaws
 pub mod Theorems
 pub mod CodeLaws
+pub mod Lenient

@@ -23,11 +23,14 @@ pub struct Verdict {
     pub number: u32,
 }
 
+// The numbers that the code answers are below this.
+pub const NUMBERS: usize = 21;
+
 // How many cases, how many of them agreed, and how often the code answered each number.
 pub struct Tally {
     pub cases: u64,
     pub agreed: u64,
-    pub answers: [u64; 17],
+    pub answers: [u64; NUMBERS],
 }
 
 // Widened and bounded once, so that callers needn't show it.
@@ -129,7 +132,7 @@ impl Tally {
         Tally {
             cases: 0,
             agreed: 0,
-            answers: [0u64; 17],
+            answers: [0u64; NUMBERS],
         }
     }
 
@@ -139,7 +142,7 @@ impl Tally {
             self.agreed = std::num::wrapping_add_u64(self.agreed, 1);
         }
         let number = verdict.number as usize;
-        if number < 17 {
+        if number < NUMBERS {
             let before = self.answers[number];
             self.answers[number] = std::num::wrapping_add_u64(before, 1);
         }

@@ -20,7 +20,7 @@ use Rattle.node.specs.declared.Node.{Node}
 use Rattle.node.specs.declared.Separator.{Separator}
 use Rattle.node.specs.Chain.{padded, childOf, valueOf, blocks, nodeOf}
 use Rattle.node.specs.Edit.{inserted, removed, insertAt, removeAt, separatorOf}
-use Rattle.node.specs.EditMirror.{copied, sepAt, withSeparator, withValue, withChild, opened, insertedAt, closed, removedAt, keptTo, restFrom, splitAt, joinedWith}
+use Rattle.node.specs.EditMirror.{copied, sepAt, withSeparator, withChild, opened, insertedAt, closed, removedAt, keptTo, restFrom, splitAt, joinedWith}
 use Rattle.node.proofs.ArrayLaws.{copied-none, copied-past, copied-short, copied-turn, copied-in, copied-zeros, part-end, open-array, close-array, over-zeros, padded-full}
 
 -- ---- arrays
@@ -121,14 +121,6 @@ module _ (n : Node) where
   pub child-2 : (i : ℕ) (c : Child) → length (n .children) ≡ 9 → 9 ≤ i → n ≡ withChild n i c
   unfolding withChild
   child-2 i c l h = rw (set-out (n .children) i c (omega arith))
-
-  pub value-1 : (i : ℕ) (v : Value) → record { count = n .count; children = n .children; values = set (n .values) i v; lens = n .lens; keys = n .keys } ≡ withValue n i v
-  unfolding withValue
-  value-1 i v = refl
-
-  pub value-2 : (i : ℕ) (v : Value) → length (n .values) ≡ 8 → 8 ≤ i → n ≡ withValue n i v
-  unfolding withValue
-  value-2 i v l h = rw (set-out (n .values) i v (omega arith))
 
   pub set-separator-1 : (i : ℕ) (e : Separator) {ks : List ℕ} → length (n .keys) ≡ 2304 → length (e .key) ≡ 288 → i < 8 → ks ≡ copyAt (n .keys) (288 * i) (e .key) 0 288
       → record { count = n .count; children = n .children; values = set (n .values) i (e .value); lens = set (n .lens) i (e .len); keys = ks } ≡ withSeparator n i e

@@ -22,8 +22,8 @@ use Rattle.node.specs.declared.Node.{Node}
 use Rattle.node.specs.declared.Separator.{Separator}
 use Rattle.node.specs.declared.edit.Halves.{Halves}
 use Rattle.node.specs.Chain.{Step, longestKey, Fit, FitAll, padded, childOf, valueOf, blocks, nodeOf}
-use Rattle.node.specs.Edit.{nodeFrom, separatorOf, inserted, removed, insertAt, removeAt, changeAt, replaceAt, valueAt, childAt, kids, pushFront, popFront, joined, stepAt, parted, halves, halvesFrom}
-use Rattle.node.specs.EditMirror.{sepAt, withSeparator, withValue, withChild, opened, insertedAt, closed, removedAt, keptTo, restFrom, splitAt, joinedWith}
+use Rattle.node.specs.Edit.{nodeFrom, separatorOf, inserted, removed, insertAt, removeAt, changeAt, replaceAt, childAt, kids, pushFront, popFront, joined, stepAt, parted, halves, halvesFrom}
+use Rattle.node.specs.EditMirror.{sepAt, withSeparator, withChild, opened, insertedAt, closed, removedAt, keptTo, restFrom, splitAt, joinedWith}
 use Rattle.node.proofs.ChainLaws.{length-padded, getD-padded, Short, blocks-append, length-blocks}
 use Rattle.node.proofs.ArrayLaws.{drop-past, inserted-behind, removed-behind, inserted-left, inserted-right, over-right, take-own, padded-inserted, padded-removed, padded-take, padded-drop, padded-over, padded-put, padded-set, map-taken, map-dropped, map-inserted, map-removed, map-changed, map-unchanged, length-changed}
 
@@ -220,16 +220,6 @@ module _ (c : ℕ) (r : List Step) (few : length r ≤ 8) where
       getD-padded 9 (childOf 0) (childOf c ∷ map kidOf r) i
       ∙ ap (λ (l : List Child). getD (childOf c ∷ l) i (childOf 0)) (sym (map-map childOf (λ (x : Step). x .1) r))
       ∙ List·getD-map childOf (kids (c, r)) i 0
-
-  pub node-set-value : (i v : ℕ) → i < length r → withValue (nodeOf c r) i (valueOf v) ≡ nodeOf c (valueAt i v r)
-  unfolding withValue nodeOf valueAt
-  node-set-value i v h =
-      let g : Step → Step = λ x. (record { key = x .0 .key; val = v }, x .1) in
-      same-node (sym (length-changed i g r))
-      (ap (λ (l : List Child). padded 9 (childOf 0) (childOf c ∷ l)) (sym (map-unchanged kidOf i g r (λ x. refl))))
-      (mapped-set 8 (valueOf 0) valOf r few i g (valueOf v) h (λ x. refl))
-      (mapped-same 8 0 lenOf r few i g (λ x. refl))
-      (ap (padded 2304 0) (sym (blocks-same i g r (λ x. refl))))
 
   pub node-set-child : (i y : ℕ) → i ≤ length r → withChild (nodeOf c r) i (childOf y) ≡ nodeFrom (childAt i y (c, r))
   unfolding withChild nodeOf childAt
@@ -452,10 +442,6 @@ fit-drop (suc i) (x ∷ r) f = fit-drop i r (f .2)
 pub fit-insert : (i : ℕ) (x : Step) (r : List Step) → Fit (x .0) → x .1 < 2 ^ 64 → FitAll r → FitAll (insertAt i x r)
 unfolding inserted
 fit-insert i x r e c f = fit-append (take i r) (x ∷ drop i r) (fit-take i r f) (e, c, fit-drop i r f)
-
-pub fit-remove : (i : ℕ) (r : List Step) → FitAll r → FitAll (removeAt i r)
-unfolding removed
-fit-remove i r f = fit-append (take i r) (drop (i + 1) r) (fit-take i r f) (fit-drop (i + 1) r f)
 
 pub fit-change : (i : ℕ) (g : Step → Step) (r : List Step) → ((x : Step) → Fit (x .0) → x .1 < 2 ^ 64 → Fit (g x .0) × (g x .1 < 2 ^ 64)) → FitAll r → FitAll (changeAt i g r)
 fit-change i g [] k f = tt

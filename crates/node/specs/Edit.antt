@@ -45,10 +45,6 @@ module _ {A : Type 0} where
 unfoldable pub replaceAt : ℕ → Sep ℕ → List Step → List Step
 replaceAt i e r = changeAt i (λ (x : Step). (e, x .1)) r
 
--- "value replaced"
-unfoldable pub valueAt : ℕ → ℕ → List Step → List Step
-valueAt i v r = changeAt i (λ (x : Step). (record { key = x .0 .key; val = v }, x .1)) r
-
 -- another child at index i
 unfoldable pub childAt : ℕ → ℕ → Chain → Chain
 childAt zero y a = (y, a .1)

@@ -9,7 +9,6 @@ use Rattle.word.specs.Part.{part, over}
 use Rattle.word.specs.Num.{zeros}
 use Rattle.word.specs.At.{fitsIn}
 use Rattle.node.specs.declared.Child.{Child}
-use Rattle.node.specs.declared.Value.{Value}
 use Rattle.node.specs.declared.Node.{Node}
 use Rattle.node.specs.declared.Separator.{Separator}
 use Rattle.node.specs.declared.edit.Halves.{Halves}
@@ -38,9 +37,6 @@ withSeparator n i e =
     pick (ltb i 8)
     (record { count = n .count; children = n .children; values = set (n .values) i (e .value); lens = set (n .lens) i (e .len); keys = over (n .keys) (288 * i) (e .key) })
     n
-
-unfoldable pub withValue : Node → ℕ → Value → Node
-withValue n i v = record { count = n .count; children = n .children; values = set (n .values) i v; lens = n .lens; keys = n .keys }
 
 unfoldable pub withChild : Node → ℕ → Child → Node
 withChild n i c = record { count = n .count; children = set (n .children) i c; values = n .values; lens = n .lens; keys = n .keys }

@@ -12,7 +12,7 @@ ghost use Rattle.word.specs.Num.{zeros};
 ghost use Rattle.word.specs.At.{copyAt};
 ghost use Rattle.node.specs.Chain.{childOf, valueOf, nodeOf};
 ghost use Rattle.node.specs.Edit.{insertAt, inserted, removeAt, removed, separatorOf};
-ghost use Rattle.node.specs.EditMirror.{copied, sepAt, withSeparator, withValue, withChild, opened, insertedAt, closed, removedAt, keptTo, restFrom, joinedWith, splitAt};
+ghost use Rattle.node.specs.EditMirror.{copied, sepAt, withSeparator, withChild, opened, insertedAt, closed, removedAt, keptTo, restFrom, joinedWith, splitAt};
 
 pub struct Halves {
     pub left: Node,
@@ -317,16 +317,6 @@ impl Node {
         let i = i.0;
         if i < 9 {
             self.children[i] = child;
-        }
-        self
-    }
-
-    pub fn set_value(mut self, i: Index, value: Value) -> Node
-        ensures { λ r. ⌜ r ≡ withValue self (i .0) value ⌝ }
-    {
-        let i = i.0;
-        if i < 8 {
-            self.values[i] = value;
         }
         self
     }

@@ -2,6 +2,7 @@
 -- it. Assumes nothing.
 use mathlib.Core.Path.{_≡_, refl, sym, ap, _∙_}
 use mathlib.Core.List.{List, [], _∷_, _++_, append-assoc}
+use mathlib.Core.Option.{some}
 use Prim.Native.Nat.{ℕ, zero, suc, _+_}
 use lib.ListN.{length, take, drop}
 use lib.Seq.{take-at, drop-at}
@@ -10,7 +11,8 @@ use Rattle.tree.specs.Map.{Sep}
 use Rattle.tree.specs.Tree.{Node, plug}
 use Rattle.tree.proofs.Zipper.{plug-length}
 use Rattle.node.specs.Chain.{Step}
-use Rattle.outcome.specs.Mirror.{insertedAt, revalued}
+use Rattle.slots.specs.Mirror.{writeNode}
+use Rattle.outcome.specs.Mirror.{plain, insertedAt, setValueM}
 use Rattle.outcome.specs.RemoveMirror.{zipTo, zipAt, replacedAt}
 
 module _ {A C : Type 0} (s : ℕ) where
@@ -48,10 +50,10 @@ module _ (s : ℕ) (l : List (ℕ × Sep ℕ)) (c : ℕ) where
   inserted-plug r y b = rw (plug-drop s l c r) (plug-right s l c r ((y, b) ∷ r))
 
   -- the next separator gets another value
-  pub revalued-plug : (v : ℕ) (y : Step) (r : List Step)
-      → let m : Node ℕ ℕ = plug s l c (y ∷ r) in
-      _≡_ {A = Node ℕ ℕ} (record { slot = m .slot; first = m .first; rest = take (length l) (m .rest) ++ revalued v (drop (length l) (m .rest)) }) (plug s l c ((record { key = y .0 .key; val = v }, y .1) ∷ r))
-  revalued-plug v y r = rw (plug-drop s l c (y ∷ r)) (plug-right s l c (y ∷ r) ((record { key = y .0 .key; val = v }, y .1) ∷ r))
+  pub revalued-plug : (v x : ℕ) (t : List ℕ) (y : Step) (r : List Step)
+      → setValueM (length l) v x t (some (plug s l c (y ∷ r))) ≡ record { out = plain; store = writeNode t (plug s l c ((record { key = y .0 .key; val = v }, y .1) ∷ r)) }
+  revalued-plug v x t y r =
+      rw (plug-drop s l c (y ∷ r)) (ap (λ (m : Node ℕ ℕ). record { out = plain; store = writeNode t m }) (plug-right s l c (y ∷ r) ((record { key = y .0 .key; val = v }, y .1) ∷ r)))
 
   -- another separator takes the place of the next
   pub replaced-plug : (w : Sep ℕ) (y : Step) (r : List Step)

@@ -6,7 +6,7 @@ use mathlib.Core.Bool.{Bool, false, cond}
 use mathlib.Core.Option.{Option, none, some}
 use Prim.Native.Nat.{ℕ, zero, suc, _+_}
 use lib.ListN.{length, take, drop}
-use lib.Dec.{leb, ltb, eqb}
+use lib.Dec.{leb, eqb}
 use Rattle.word.specs.Key.{Key}
 use Rattle.tree.specs.Map.{Sep}
 use Rattle.tree.specs.Tree.{Node, Zip, at, below, same}
@@ -63,14 +63,14 @@ settleM d x i g = settled d x i (g .store) (g .out)
 
 -- ---- a set
 
--- another value at the separator in front of r
-abbrev pub revalued : ℕ → List Step → List Step
-revalued v [] = []
-revalued v (y ∷ r) = (record { key = y .0 .key; val = v }, y .1) ∷ r
+-- another value at index i of the node m, where the separators from there on are these
+abbrev pub revalueM : ℕ → ℕ → List ℕ → Node ℕ ℕ → List Step → Ran
+revalueM i v s m [] = record { out = bad; store = s }
+revalueM i v s m (y ∷ r) = record { out = plain; store = writeNode s (record { slot = m .slot; first = m .first; rest = take i (m .rest) ++ ((record { key = y .0 .key; val = v }, y .1) ∷ r) }) }
 
 abbrev pub setValueM : ℕ → ℕ → ℕ → List ℕ → Option (Node ℕ ℕ) → Ran
 setValueM i v x s none = record { out = bad; store = s }
-setValueM i v x s (some m) = record { out = plain; store = writeNode s (record { slot = m .slot; first = m .first; rest = take i (m .rest) ++ revalued v (drop i (m .rest)) }) }
+setValueM i v x s (some m) = revalueM i v s m (drop i (m .rest))
 
 abbrev pub isNext : Key → List Step → Bool
 isNext k [] = false

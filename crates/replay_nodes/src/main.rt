@@ -1,20 +1,23 @@
-// Replays the stored lists of node readings and node writings through crate codec, and writes how many came out as the
-// lists have them. The first three that don't are named, by their places in the list from 0 on.
+// Replays the stored lists of node readings, lenient and strict, and of node writings through crate codec, and writes how many
+// came out as the lists have them. The first three that don't are named, by their places in the list from 0 on.
 mod reading;
 mod writing;
 
 use libc::STDOUT_FILENO;
 use lists::Tally;
 use lists::Verdict;
+use reading::Rule;
 
 enum List {
     Readings,
+    StrictReadings,
     Writings,
 }
 
 fn say_differing(list: List, case: u64) {
     match list {
         List::Readings => lists::say(b"differs: reading ", case),
+        List::StrictReadings => lists::say(b"differs: strict reading ", case),
         List::Writings => lists::say(b"differs: writing ", case),
     }
     io::write_all(STDOUT_FILENO, b"\n");
@@ -24,7 +27,8 @@ fn replay_case(fd: i32, list: List) -> Verdict {
     let mut buffer = io::buffer();
     let len = lists::read_block(fd, &mut buffer);
     match list {
-        List::Readings => reading::check(&buffer[..len]),
+        List::Readings => reading::check(&buffer[..len], Rule::Lenient),
+        List::StrictReadings => reading::check(&buffer[..len], Rule::Strict),
         List::Writings => Verdict {
             agreed: writing::agrees(&buffer[..len]),
             number: 0,
@@ -67,7 +71,7 @@ fn say_counts(list: &[u8], tally: Tally) {
     lists::say(b" agreed ", tally.agreed);
 }
 
-fn say_answers(answers: [u64; 17]) {
+fn say_answers(answers: [u64; lists::NUMBERS]) {
     lists::say(b", accepted ", answers[0]);
     lists::say(b", refused 4: ", answers[4]);
     lists::say(b", 11: ", answers[11]);
@@ -76,13 +80,38 @@ fn say_answers(answers: [u64; 17]) {
     lists::say(b", 14: ", answers[14]);
 }
 
-fn main() {
+// Those that a strict reading alone answers.
+fn say_strict_answers(answers: [u64; lists::NUMBERS]) {
+    lists::say(b", 18: ", answers[18]);
+    lists::say(b", 19: ", answers[19]);
+    lists::say(b", 20: ", answers[20]);
+}
+
+fn say_readings() {
     let readings = replay(b"node_readings.bin", List::Readings);
     say_counts(b"readings ", readings);
     let answers = readings.answers;
     say_answers(answers);
     io::write_all(STDOUT_FILENO, b"\n");
+}
+
+fn say_strict_readings() {
+    let readings = replay(b"node_readings.bin", List::StrictReadings);
+    say_counts(b"strict ", readings);
+    let answers = readings.answers;
+    say_answers(answers);
+    say_strict_answers(answers);
+    io::write_all(STDOUT_FILENO, b"\n");
+}
+
+fn say_writings() {
     let writings = replay(b"node_writings.bin", List::Writings);
     say_counts(b"writings ", writings);
     io::write_all(STDOUT_FILENO, b"\n");
+}
+
+fn main() {
+    say_readings();
+    say_strict_readings();
+    say_writings();
 }

@@ -1,21 +1,36 @@
-// A case of node_readings.bin: node bytes, and what a reading of them gives.
+// A case of node_readings.bin: node bytes, and what each of two readings of them gives.
 //
 //     part     the node bytes
+//     the lenient reading:
 //     u8       the number
 //     only if the number is 0:
 //     u8       separators n (0 to 8)
 //     (n+1) × u64   the children
 //     n × (u64 value, u16 start, u16 length)
+//     the strict reading:
+//     u8       the number
+//     u16      the place
 //
-// Below, `told` is all behind the node bytes.
+// Below, `told` begins with a reading's number: it is all behind the node bytes, or for a refused strict reading what is told
+// of that one.
 ghost use Prim.Native.Nat.{_≤_, _<_};
+ghost use lib.ListN.{length};
 ghost use Rattle.lists.specs.Within.{Within};
-use codec::Reading;
 use lists::Span;
 use lists::Verdict;
 use node::Child;
 use node::Index;
+use node::Node;
 use node::Value;
+
+// What is told of a strict reading has this length.
+const STRICT_LENGTH: usize = 3;
+
+// How node bytes are read.
+pub enum Rule {
+    Lenient,
+    Strict,
+}
 
 // How many separators are told; a refused reading has none.
 fn separators(told: &[u8]) -> usize
@@ -38,12 +53,19 @@ fn children(told: &[u8]) -> usize
     separators(told) + 1
 }
 
-// How long the telling is.
-fn told_length(told: &[u8]) -> usize {
+// How long what is told of the lenient reading is; the strict one's number stands behind it.
+fn lenient_length(told: &[u8]) -> usize
+    ensures { λ r. ⌜ r ≤ 170 ⌝ }
+{
     if 0 < lists::byte(told, 0) {
         return 1;
     }
     10 + 20 * separators(told)
+}
+
+// Whether both readings are told, and nothing behind them.
+fn is_whole(told: &[u8]) -> bool {
+    told.len() == lenient_length(told) + STRICT_LENGTH
 }
 
 // Child i as told, 0 where none is.
@@ -132,14 +154,21 @@ fn same_keys(keys: [u8; 2304], bytes: &[u8], told: &[u8]) -> bool {
     true
 }
 
+fn key_found(bytes: &[u8], i: usize, rule: Rule) -> &[u8] {
+    match rule {
+        Rule::Lenient => codec::key(bytes, Index(i)),
+        Rule::Strict => codec::key_strict(bytes, Index(i)),
+    }
+}
+
 // The keys as parts of the node bytes; the ninth is of no separator.
-fn same_parts(bytes: &[u8], told: &[u8]) -> bool {
+fn same_parts(bytes: &[u8], told: &[u8], rule: Rule) -> bool {
     let mut i: usize = 0;
     while i < 9 {
         let span = key(bytes, told, i);
         let start = span.start;
         let end = span.end;
-        let found = codec::key(bytes, Index(i));
+        let found = key_found(bytes, i, rule);
         if !check::same(found, &bytes[start..end]) {
             return false;
         }
@@ -148,19 +177,11 @@ fn same_parts(bytes: &[u8], told: &[u8]) -> bool {
     true
 }
 
-fn agrees(reading: Reading, bytes: &[u8], told: &[u8]) -> bool {
-    let ending = reading.ending;
-    let node = reading.node;
+fn same_node(node: Node, bytes: &[u8], told: &[u8]) -> bool {
     let children = node.children;
     let values = node.values;
     let lens = node.lens;
     let keys = node.keys;
-    if told.len() != told_length(told) {
-        return false;
-    }
-    if ending.number() as usize != lists::byte(told, 0) {
-        return false;
-    }
     if node.count != separators(told) {
         return false;
     }
@@ -170,20 +191,64 @@ fn agrees(reading: Reading, bytes: &[u8], told: &[u8]) -> bool {
     if !same_separators(values, lens, told) {
         return false;
     }
-    if !same_keys(keys, bytes, told) {
-        return false;
-    }
-    same_parts(bytes, told)
+    same_keys(keys, bytes, told)
 }
 
-pub fn check(block: &[u8]) -> Verdict {
+// What both readings answer: the number, the node, and the keys one by one.
+fn same_answer(number: u32, node: Node, bytes: &[u8], told: &[u8], rule: Rule) -> bool {
+    if number as usize != lists::byte(told, 0) {
+        return false;
+    }
+    if !same_node(node, bytes, told) {
+        return false;
+    }
+    same_parts(bytes, told, rule)
+}
+
+fn check_lenient(bytes: &[u8], told: &[u8]) -> Verdict {
+    let reading = codec::read(bytes);
+    let ending = reading.ending;
+    let number = ending.number();
+    let node = reading.node;
+    Verdict {
+        agreed: is_whole(told) && same_answer(number, node, bytes, told, Rule::Lenient),
+        number: number,
+    }
+}
+
+// Where the answer of the strict reading is told whose number stands at a place: accepted it gives what the lenient one gives,
+// refused nothing but its number.
+fn strict_start(told: &[u8], at: usize) -> usize
+    ensures { λ r. ⌜ r ≤ length (now (told .entry)) ⌝ }
+{
+    if lists::byte(told, at) == 0 {
+        return 0;
+    }
+    let span = lists::place(told, at, STRICT_LENGTH);
+    span.start
+}
+
+fn check_strict(bytes: &[u8], told: &[u8]) -> Verdict {
+    let reading = codec::read_strict(bytes);
+    let ending = reading.ending;
+    let number = ending.number();
+    let node = reading.node;
+    let at = lenient_length(told);
+    let start = strict_start(told, at);
+    let same_place = reading.at as u64 == lists::number(told, at + 1, 2);
+    let same = same_place && same_answer(number, node, bytes, &told[start..], Rule::Strict);
+    Verdict {
+        agreed: is_whole(told) && same,
+        number: number,
+    }
+}
+
+pub fn check(block: &[u8], rule: Rule) -> Verdict {
     let span = lists::part(block, 0);
     let start = span.start;
     let end = span.end;
-    let reading = codec::read(&block[start..end]);
-    let ending = reading.ending;
-    Verdict {
-        agreed: agrees(reading, &block[start..end], &block[end..]),
-        number: ending.number(),
+    match rule {
+        Rule::Lenient => check_lenient(&block[start..end], &block[end..]),
+        Rule::Strict => check_strict(&block[start..end], &block[end..]),
     }
 }

@@ -50,7 +50,7 @@ fn replay_stores(fd: i32, stores: usize) -> Tally {
     tally
 }
 
-fn say_answers(answers: [u64; 17]) {
+fn say_answers(answers: [u64; lists::NUMBERS]) {
     lists::say(b", answered 0: ", answers[0]);
     lists::say(b", 1: ", answers[1]);
     lists::say(b", 4: ", answers[4]);

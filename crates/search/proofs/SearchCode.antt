@@ -13,7 +13,6 @@ use Rattle.word.specs.Key.{Key, cmp, orderOf}
 use Rattle.word.specs.Part.{part}
 use Rattle.word.specs.declared.Order.{Order}
 use Rattle.word.specs.declared.Order.the-variants.{Less, Equal, Greater}
-use Rattle.tree.proofs.Cases.{by-bool}
 use Rattle.node.specs.declared.Child.{Child}
 use Rattle.codec.specs.declared.Ending.{Ending}
 use Rattle.codec.specs.declared.Ending.the-variants.{NoByteLeft, BytesIgnored, ShortChild}
@@ -25,10 +24,11 @@ use Rattle.search.specs.declared.Turn.the-variants.{First, NotBelow, Abo
 use Rattle.search.specs.declared.Spot.{Spot}
 use Rattle.search.specs.declared.Sight.{Sight}
 use Rattle.codec.specs.Codec as codec
-use Rattle.codec.specs.Codec.{Scan, stop, before, isAccepted, headAt, follow, scanFrom}
+use Rattle.codec.specs.Codec.{Scan, stop, before, headAt, follow, scanFrom}
 use Rattle.node.specs.Chain.{childOf}
-use Rattle.codec.specs.Layout.{anyOf}
-use Rattle.search.specs.Search.{barOf, rankOf, passes, meets, misfits, emptySight, withChild, metChild, counted, behindSpot, atSpot, metSpot, spotOf, orderWith, along, fitsKind, sightIn, sightOf, Saw, EndsIn, SeesLast, GoesOn}
+use Rattle.codec.specs.Layout.{anyOf, isWhole}
+use Rattle.codec.proofs.ScanLaws.{head-ends}
+use Rattle.search.specs.Search.{barOf, rankOf, passes, meets, misfits, emptySight, withChild, metChild, counted, behindSpot, atSpot, metSpot, spotOf, orderWith, along, fitsKind, sightIn, sightOf, Saw, SeesLast, GoesOn}
 
 -- ---- one child, one separator
 
@@ -94,22 +94,22 @@ unfit leaf r c e m =
     ap (λ (b : Bool). not (b || anyOf (misfits leaf) (map (λ (x : codec.Spot × ℕ). childOf (x .1)) (r .rest)))) (ap (λ (n : ℕ). misfits leaf (childOf n)) e ∙ m)
 
 module _ (t : Turn) (leaf : Bool) (s : List ℕ) (k : Key) (v : Sight) where
-  refused : (r : Scan) → isAccepted (r .ending) ≡ false → sightIn t leaf s k v r ≡ emptySight false
+  refused : (r : Scan) → isWhole r ≡ false → sightIn t leaf s k v r ≡ emptySight false
   unfolding sightIn
   refused r a = pickF _ _ (ap (λ (b : Bool). b && fitsKind leaf r) a)
 
   misfit : (r : Scan) (c : ℕ) → r .first ≡ c → misfits leaf (childOf c) ≡ true → sightIn t leaf s k v r ≡ emptySight false
   unfolding sightIn
-  misfit r c e m = pickF _ _ (ap (λ (b : Bool). isAccepted (r .ending) && b) (unfit leaf r c e m) ∙ and-false (isAccepted (r .ending)))
+  misfit r c e m = pickF _ _ (ap (λ (b : Bool). isWhole r && b) (unfit leaf r c e m) ∙ and-false (isWhole r))
 
-  stopped : (e : Ending) (c : ℕ) → isAccepted e ≡ true → misfits leaf (childOf c) ≡ false → sightIn t leaf s k v (stop e c) ≡ metChild v (childOf c)
+  stopped : (c : ℕ) → misfits leaf (childOf c) ≡ false → sightIn t leaf s k v (stop NoByteLeft c) ≡ metChild v (childOf c)
   unfolding sightIn along fitsKind
-  stopped e c a m = pickT _ _ (rw (a, m))
+  stopped c m = pickT _ _ (rw m)
 
-  passed : (c : ℕ) (x : codec.Spot) (r : Scan) → misfits leaf (childOf c) ≡ false
+  passed : (c : ℕ) (x : codec.Spot) (r : Scan) → x .plain ≡ true → misfits leaf (childOf c) ≡ false
       → sightIn t leaf s k v (before c x r) ≡ sightIn t leaf s k (metSpot t (metChild v (childOf c)) (spotOf x) (orderWith s k x)) r
   unfolding sightIn along fitsKind
-  passed c x r m = rw m
+  passed c x r p m = rw (p, m)
 
 -- ---- what is handed back
 
@@ -121,19 +121,6 @@ module _ {t : Turn} {leaf : Bool} {s : List ℕ} {k : Key} {r : Sight} where
   saw-none e g = record {
     good-is = g ∙ sym (ap (λ (v : Sight). v .good) e);
     all-is = λ h. let f : false ≡ true = sym g ∙ h in let n : _≡_ {A = ℕ} 0 1 = cc in absurd (omega arith);
-  }
-
-module _ {e : Ending} {o : Bool} {v : Sight} (a : o ≡ isAccepted e) where
-  pub ends-well : o ≡ true → EndsIn e v v
-  ends-well b = record {
-    accepted-is = λ h. refl;
-    refused-is = λ h. let f : false ≡ true = sym h ∙ sym a ∙ b in let n : _≡_ {A = ℕ} 0 1 = cc in absurd (omega arith);
-  }
-
-  pub ends-badly : {r : Sight} → o ≡ false → r .good ≡ false → EndsIn e v r
-  ends-badly b g = record {
-    accepted-is = λ h. let f : false ≡ true = sym b ∙ a ∙ h in let n : _≡_ {A = ℕ} 0 1 = cc in absurd (omega arith);
-    refused-is = λ h. g;
   }
 
 -- ---- the ways through a loop
@@ -172,22 +159,22 @@ module _ (t : Turn) (leaf : Bool) (s : List ℕ) (k : Key) where
       -- u: with this child, if it is the walk's
       module _ (u : Sight) (y : m ≡ false) (q : u ≡ metChild v (childOf c)) where
         walk-whole : at + 8 ≡ length s → Saw t leaf s k u
-        walk-whole e = saw-all (q ∙ sym (l ∙ ap (sightIn t leaf s k v) (in-bytes ∙ pickT _ _ (eq-eqb _ _ e)) ∙ stopped t leaf s k v NoByteLeft c refl (sym a ∙ y)))
+        walk-whole e = saw-all (q ∙ sym (l ∙ ap (sightIn t leaf s k v) (in-bytes ∙ pickT _ _ (eq-eqb _ _ e)) ∙ stopped t leaf s k v c (sym a ∙ y)))
 
         module _ (z : at + 8 ≡ length s → ⊥) {d : Head} (j : d ≡ headAt s (at + 8)) where
           behind : {x : Head} → d ≡ x → sightOf t leaf s k ≡ sightIn t leaf s k v (follow s (scanFrom s (8 - (i + 1))) c x)
           behind e = l ∙ ap (sightIn t leaf s k v) (in-bytes ∙ pickF _ _ (ne-eqb _ _ z) ∙ ap (follow s (scanFrom s (8 - (i + 1))) c) (sym j ∙ e))
 
-          walk-end : {e : Ending} {r : Sight} → d ≡ Ended e → EndsIn e u r → Saw t leaf s k r
-          walk-end {e} x ends =
-              by-bool (isAccepted e)
-              (λ o. saw-all (ends .accepted-is o ∙ q ∙ sym (behind x ∙ stopped t leaf s k v e c o (sym a ∙ y))))
-              (λ o. saw-none (behind x ∙ refused t leaf s k v (stop e c) o) (ends .refused-is o))
+          walk-end : {e : Ending} {r : Sight} → d ≡ Ended e → r .good ≡ false → Saw t leaf s k r
+          walk-end {e} x = saw-none (behind x ∙ refused t leaf s k v (stop e c) (head-ends s (at + 8) j x))
 
-          walk-spot : {w : Value} {start len : ℕ} {plain : Bool} (r : Sight) → d ≡ Separator w start len plain
+          walk-low : {w : Value} {start len : ℕ} {plain : Bool} {r : Sight} → d ≡ Separator w start len plain → not plain ≡ true → r .good ≡ false → Saw t leaf s k r
+          walk-low {w} {start} {len} {plain} x low = saw-none (behind x ∙ refused t leaf s k v (follow s (scanFrom s (8 - (i + 1))) c (Separator w start len plain)) (rw (not-true plain low)))
+
+          walk-spot : {w : Value} {start len : ℕ} {plain : Bool} (r : Sight) → d ≡ Separator w start len plain → not plain ≡ false
               → r ≡ metSpot t u (record { start = start; len = len; value = w }) (orderOf (cmp k (part s start len))) → Seen r (start + len) (i + 1)
-          walk-spot {w} {start} {len} {plain} r x e =
-              behind x ∙ passed t leaf s k v c (record { value = w .0; start = start; len = len; plain = plain }) _ (sym a ∙ y)
+          walk-spot {w} {start} {len} {plain} r x p e =
+              behind x ∙ passed t leaf s k v c (record { value = w .0; start = start; len = len; plain = plain }) _ (not-false plain p) (sym a ∙ y)
               ∙ ap (λ (r : Sight). sightIn t leaf s k r (scanFrom s (8 - (i + 1)) (start + len))) (ap (λ (u : Sight). metSpot t u (record { start = start; len = len; value = w }) (orderOf (cmp k (part s start len)))) (sym q) ∙ sym e)
 
   -- ---- the child behind the eighth separator
@@ -208,16 +195,17 @@ module _ (t : Turn) (leaf : Bool) (s : List ℕ) (k : Key) where
       pub last-misfit : {r : Sight} → m ≡ true → r .good ≡ false → Saw t leaf s k r
       last-misfit y = saw-none (last-there ∙ misfit t leaf s k v _ c (by-test (λ (r : Scan). r .first ≡ c) (eqb (at + 8) (length s)) (λ e. refl) (λ e. refl)) (sym a ∙ y))
 
-      last-child : (u : Sight) → m ≡ false → u ≡ metChild v (childOf c) → Saw t leaf s k u
-      last-child u y q =
-          saw-all (q ∙ sym (last-there ∙ by-test (λ (r : Scan). sightIn t leaf s k v r ≡ metChild v (childOf c)) (eqb (at + 8) (length s))
-          (λ e. stopped t leaf s k v NoByteLeft c refl (sym a ∙ y)) (λ e. stopped t leaf s k v BytesIgnored c refl (sym a ∙ y))))
+      pub last-behind : {r : Sight} → m ≡ false → (at + 8 ≡ length s → ⊥) → r .good ≡ false → Saw t leaf s k r
+      last-behind y z = saw-none (last-there ∙ ap (sightIn t leaf s k v) (pickF _ _ (ne-eqb _ _ z)) ∙ refused t leaf s k v (stop BytesIgnored c) refl)
 
-      pub last-seen : m ≡ false → not (v .turned) ≡ true → Saw t leaf s k (withChild v (childOf c))
-      last-seen y h = last-child (withChild v (childOf c)) y (child-seen v (childOf c) (not-true _ h))
+      last-child : (u : Sight) → m ≡ false → at + 8 ≡ length s → u ≡ metChild v (childOf c) → Saw t leaf s k u
+      last-child u y e q = saw-all (q ∙ sym (last-there ∙ ap (sightIn t leaf s k v) (pickT _ _ (eq-eqb _ _ e)) ∙ stopped t leaf s k v c (sym a ∙ y)))
 
-      pub last-passed : m ≡ false → not (v .turned) ≡ false → Saw t leaf s k v
-      last-passed y h = last-child v y (child-passed v (childOf c) (not-false _ h))
+      pub last-seen : m ≡ false → at + 8 ≡ length s → not (v .turned) ≡ true → Saw t leaf s k (withChild v (childOf c))
+      last-seen y e h = last-child (withChild v (childOf c)) y e (child-seen v (childOf c) (not-true _ h))
+
+      pub last-passed : m ≡ false → at + 8 ≡ length s → not (v .turned) ≡ false → Saw t leaf s k v
+      last-passed y e h = last-child v y e (child-passed v (childOf c) (not-false _ h))
 
   at-last : (v : Sight) (at : ℕ) {r : Sight} → 8 ≤ v .count → v .count ≤ 8 → Seen v at (v .count) → SeesLast leaf s v at r → Saw t leaf s k r
   at-last v at h o l q = let e : v .count ≡ 8 = omega arith in q t k (l ∙ ap (λ (n : ℕ). sightIn t leaf s k v (scanFrom s (8 - n) at)) e)
@@ -241,13 +229,16 @@ module _ (leaf : Bool) (s : List ℕ) (v : Sight) (at : ℕ) where
         on-whole e t k w o l = walk-whole t leaf s k v at (v .count) l h f n g a v y (child-passed v (childOf c) w) e
 
         module _ (z : at + 8 ≡ length s → ⊥) {d : Head} (j : d ≡ headAt s (at + 8)) where
-          pub on-end : {e : Ending} {r : Sight} → d ≡ Ended e → EndsIn e v r → GoesOn leaf s v at r
+          pub on-end : {e : Ending} {r : Sight} → d ≡ Ended e → r .good ≡ false → GoesOn leaf s v at r
           on-end x e t k w o l = walk-end t leaf s k v at (v .count) l h f n g a v y (child-passed v (childOf c) w) z j x e
 
-          pub on-spot : {x : Value} {start len : ℕ} {plain : Bool} (r : Sight) → d ≡ Separator x start len plain → GoesOn leaf s (counted v) (start + len) r → GoesOn leaf s v at r
-          on-spot r x q t k w o l =
+          pub on-low : {x : Value} {start len : ℕ} {plain : Bool} {r : Sight} → d ≡ Separator x start len plain → not plain ≡ true → r .good ≡ false → GoesOn leaf s v at r
+          on-low x p e t k w o l = walk-low t leaf s k v at (v .count) l h f n g a v y (child-passed v (childOf c) w) z j x p e
+
+          pub on-spot : {x : Value} {start len : ℕ} {plain : Bool} (r : Sight) → d ≡ Separator x start len plain → not plain ≡ false → GoesOn leaf s (counted v) (start + len) r → GoesOn leaf s v at r
+          on-spot r x p q t k w o l =
               q t k w (omega arith)
-              (walk-spot t leaf s k v at (v .count) l h f n g a v y (child-passed v (childOf c) w) z j (counted v) x (spot-counted t v _ _ w))
+              (walk-spot t leaf s k v at (v .count) l h f n g a v y (child-passed v (childOf c) w) z j (counted v) x p (spot-counted t v _ _ w))
 
 -- ---- the loop before it
 
@@ -283,21 +274,24 @@ module _ (t : Turn) (leaf : Bool) (s : List ℕ) (k : Key) where
           going-whole = walk-whole t leaf s k v at (v .count) (l .2) h f n g a u y seen
 
           module _ (z : at + 8 ≡ length s → ⊥) {d : Head} (j : d ≡ headAt s (at + 8)) where
-            pub going-end : {e : Ending} {r : Sight} → d ≡ Ended e → EndsIn e u r → Saw t leaf s k r
+            pub going-end : {e : Ending} {r : Sight} → d ≡ Ended e → r .good ≡ false → Saw t leaf s k r
             going-end = walk-end t leaf s k v at (v .count) (l .2) h f n g a u y seen z j
 
-            module _ {x : Value} {start len : ℕ} {plain : Bool} (sep : d ≡ Separator x start len plain) {o : Order} (e : o ≡ orderOf (cmp k (part s start len))) {p : Bool} (told : p ≡ passes t o) where
+            pub going-low : {x : Value} {start len : ℕ} {plain : Bool} {r : Sight} → d ≡ Separator x start len plain → not plain ≡ true → r .good ≡ false → Saw t leaf s k r
+            going-low = walk-low t leaf s k v at (v .count) (l .2) h f n g a u y seen z j
+
+            module _ {x : Value} {start len : ℕ} {plain : Bool} (sep : d ≡ Separator x start len plain) (as-written : not plain ≡ false) {o : Order} (e : o ≡ orderOf (cmp k (part s start len))) {p : Bool} (told : p ≡ passes t o) where
               abbrev spot : Spot
               spot = record { start = start; len = len; value = x }
 
               pub going-turn : {b : Bool} {w r : Sight} → not p ≡ true → b ≡ meets t o → w ≡ atSpot u spot b → GoesOn leaf s w (start + len) r → Saw t leaf s k r
               going-turn {b} {w} {r} left met is q =
                   let on : Seen t leaf s k (atSpot u spot b) (start + len) (v .count + 1) =
-                  walk-spot t leaf s k v at (v .count) (l .2) h f n g a u y seen z j (atSpot u spot b) sep (spot-turned t u spot (l .1) e told left met) in
+                  walk-spot t leaf s k v at (v .count) (l .2) h f n g a u y seen z j (atSpot u spot b) sep as-written (spot-turned t u spot (l .1) e told left met) in
                   subst (λ (w : Sight). GoesOn leaf s w (start + len) r) is q t k refl (omega arith) on
 
               pub going-behind : {r : Sight} → not p ≡ false → r ≡ behindSpot u spot → Going r (start + len)
               going-behind passed is =
                   let on : Seen t leaf s k (behindSpot u spot) (start + len) (v .count + 1) =
-                  walk-spot t leaf s k v at (v .count) (l .2) h f n g a u y seen z j (behindSpot u spot) sep (spot-passed t u spot (l .1) e told passed) in
+                  walk-spot t leaf s k v at (v .count) (l .2) h f n g a u y seen z j (behindSpot u spot) sep as-written (spot-passed t u spot (l .1) e told passed) in
                   subst (λ (r : Sight). Going r (start + len)) (sym is) (omega arith, l .1, on)

@@ -1,4 +1,4 @@
--- What `search` sees, by the places of the bytes: it is good exactly where they are accepted and their children fit; and then
+-- What `search` sees, by the places of the bytes: it is good exactly where they are in standard form and their children fit; and then
 -- the child and the separators beside the place where the walk turns are those of the places. Assumes nothing.
 use mathlib.Core.Path.{_≡_, refl, sym, ap, subst, _∙_}
 use mathlib.Core.List.{List, [], _∷_, _++_, map, append-assoc}
@@ -13,7 +13,6 @@ use Rattle.word.specs.Pick.{pick, pickT, pickF, by-test}
 use Rattle.word.specs.Key.{Key}
 use Rattle.word.specs.declared.Order.{Order}
 use Rattle.tree.proofs.Cases.{by-bool}
-use Rattle.codec.specs.declared.Ending.{Ending}
 use Rattle.node.specs.declared.Child.{Child}
 use Rattle.node.specs.declared.Value.{Value}
 use Rattle.codec.specs.declared.Places.{Places}
@@ -23,12 +22,14 @@ use Rattle.search.specs.declared.Turn.the-variants.{First, NotBelow, Abo
 use Rattle.search.specs.declared.Spot.{Spot}
 use Rattle.search.specs.declared.Sight.{Sight}
 use Rattle.codec.specs.Codec as codec
-use Rattle.codec.specs.Codec.{Scan, isAccepted, scanFrom, settle, scan, stepOf}
+use Rattle.codec.specs.Codec.{Scan, scanFrom, settle, scan, stepOf}
 use Rattle.node.specs.Chain.{padded, childOf, valueOf}
-use Rattle.codec.specs.Layout.{layout, placesOf, anyOf}
+use Rattle.codec.specs.Layout.{isWhole, layout, placesOf, anyOf}
 use Rattle.codec.specs.Position.{found}
 use Rattle.search.specs.Search.{passes, meets, misfits, noSpot, emptySight, metChild, metSpot, spotOf, orderWith, along, fitsKind, sightIn, sightOf, turnAt, spotIn, Sees, fitsPlaces}
 use Rattle.node.proofs.ChainLaws.{getD-padded, getD-mapped}
+use Rattle.codec.proofs.ScanLaws.{and-left}
+use Rattle.codec.proofs.StrictLaws.{settle-whole, whole-ends}
 use Rattle.codec.proofs.PositionLaws.{step-start, step-len, layout-count, foundBy, behind, front, spread, found-none, found-turn, position-places}
 
 -- ---- a walk changes nothing about whether the sight is good
@@ -185,13 +186,13 @@ module _ (t : Turn) (s : List ℕ) (k : Key) (p : Places) (g : Bool) where
 -- ---- the reading
 
 module _ (s : List ℕ) where
-  ending-is : placesOf s .ending ≡ scanFrom s 8 0 .ending
-  unfolding placesOf layout scan settle
-  ending-is = by-test (λ (r : Scan). r .ending ≡ scanFrom s 8 0 .ending) (isAccepted (scanFrom s 8 0 .ending)) (λ e. refl) (λ e. refl)
+  whole-is : placesOf s .standard ≡ isWhole (scanFrom s 8 0)
+  unfolding placesOf layout scan
+  whole-is = sym (settle-whole (scanFrom s 8 0))
 
-  scan-is : isAccepted (scanFrom s 8 0 .ending) ≡ true → scan s ≡ scanFrom s 8 0
+  scan-is : isWhole (scanFrom s 8 0) ≡ true → scan s ≡ scanFrom s 8 0
   unfolding scan settle
-  scan-is e = pickT _ _ e
+  scan-is e = pickT _ _ (whole-ends (scanFrom s 8 0) e)
 
 fits-layout : (leaf : Bool) (r : Scan) → fitsPlaces leaf (layout r) ≡ fitsKind leaf r
 unfolding fitsPlaces fitsKind layout padded
@@ -201,34 +202,30 @@ fits-layout leaf r =
     ap (λ (m : List Child). not (anyOf (misfits leaf) m)) (take-at l (replicate (9 - length l) (childOf 0)) (length (r .rest) + 1) (omega (arith, length-map (r .rest) f)))
 
 module _ (t : Turn) (leaf : Bool) (s : List ℕ) (k : Key) where
-  fits-is : isAccepted (scanFrom s 8 0 .ending) ≡ true → fitsPlaces leaf (placesOf s) ≡ fitsKind leaf (scanFrom s 8 0)
+  fits-is : isWhole (scanFrom s 8 0) ≡ true → fitsPlaces leaf (placesOf s) ≡ fitsKind leaf (scanFrom s 8 0)
   unfolding placesOf
   fits-is e = ap (λ (r : Scan). fitsPlaces leaf (layout r)) (scan-is s e) ∙ fits-layout leaf (scanFrom s 8 0)
 
-  good-is : sightOf t leaf s k .good ≡ (isAccepted (scanFrom s 8 0 .ending) && fitsKind leaf (scanFrom s 8 0))
+  good-is : sightOf t leaf s k .good ≡ (isWhole (scanFrom s 8 0) && fitsKind leaf (scanFrom s 8 0))
   unfolding sightOf sightIn
   good-is =
       let r : Scan = scanFrom s 8 0 in
-      let b : Bool = isAccepted (r .ending) && fitsKind leaf r in
+      let b : Bool = isWhole r && fitsKind leaf r in
       by-test (λ (v : Sight). v .good ≡ b) b (λ e. along-good t s k (emptySight true) (r .first) (r .rest) ∙ sym e) (λ e. sym e)
 
-  pub sight-good : sightOf t leaf s k .good ≡ (isAccepted (placesOf s .ending) && fitsPlaces leaf (placesOf s))
+  pub sight-good : sightOf t leaf s k .good ≡ (placesOf s .standard && fitsPlaces leaf (placesOf s))
   sight-good =
-      let a : Bool = isAccepted (scanFrom s 8 0 .ending) in
-      good-is ∙ by-bool a (λ e. ap (λ (b : Bool). a && b) (sym (fits-is e))) (λ e. rw e) ∙ ap (λ (m : Ending). isAccepted m && fitsPlaces leaf (placesOf s)) (sym (ending-is s))
+      let a : Bool = isWhole (scanFrom s 8 0) in
+      good-is ∙ by-bool a (λ e. ap (λ (b : Bool). a && b) (sym (fits-is e))) (λ e. rw e) ∙ ap (λ (m : Bool). m && fitsPlaces leaf (placesOf s)) (sym (whole-is s))
 
-  accepted-good : sightOf t leaf s k .good ≡ true → isAccepted (scanFrom s 8 0 .ending) ≡ true
-  accepted-good h = and-left (isAccepted (scanFrom s 8 0 .ending)) (fitsKind leaf (scanFrom s 8 0)) (sym good-is ∙ h)
-    where
-      and-left : (x y : Bool) → (x && y) ≡ true → x ≡ true
-      and-left true y p = refl
-      and-left false y p = p
+  whole-good : sightOf t leaf s k .good ≡ true → isWhole (scanFrom s 8 0) ≡ true
+  whole-good h = and-left (isWhole (scanFrom s 8 0)) (fitsKind leaf (scanFrom s 8 0)) (sym good-is ∙ h)
 
   sight-is : sightOf t leaf s k .good ≡ true → sightOf t leaf s k ≡ along t s k (emptySight true) (scan s .first) (scan s .rest)
   unfolding sightOf sightIn
   sight-is h =
       pickT _ _ (sym good-is ∙ h)
-      ∙ ap (λ (r : Scan). along t s k (emptySight true) (r .first) (r .rest)) (sym (scan-is s (accepted-good h)))
+      ∙ ap (λ (r : Scan). along t s k (emptySight true) (r .first) (r .rest)) (sym (scan-is s (whole-good h)))
 
   along-sees : Sees t (placesOf s) s k (along t s k (emptySight true) (scan s .first) (scan s .rest))
   along-sees =

@@ -12,7 +12,6 @@ use Rattle.word.specs.Part.{part}
 use Rattle.word.specs.declared.Order.{Order}
 use Rattle.word.specs.declared.Order.the-variants.{Less, Equal, Greater}
 use Rattle.node.specs.declared.Child.{Child}
-use Rattle.codec.specs.declared.Ending.{Ending}
 use Rattle.codec.specs.declared.Places.{Places}
 use Rattle.codec.specs.declared.position.Found.{Found}
 use Rattle.search.specs.declared.Turn.{Turn}
@@ -20,9 +19,9 @@ use Rattle.search.specs.declared.Turn.the-variants.{First, NotBelow, Abo
 use Rattle.search.specs.declared.Spot.{Spot}
 use Rattle.search.specs.declared.Sight.{Sight}
 use Rattle.codec.specs.Codec as codec
-use Rattle.codec.specs.Codec.{Scan, isAccepted, scanFrom}
+use Rattle.codec.specs.Codec.{Scan, scanFrom}
 use Rattle.node.specs.Chain.{childOf, valueOf}
-use Rattle.codec.specs.Layout.{anyOf}
+use Rattle.codec.specs.Layout.{anyOf, isWhole}
 use Rattle.codec.specs.Position.{found, goesOn, isEqual, positionOf}
 
 -- ---- one separator, one child
@@ -61,7 +60,7 @@ misfits false c = eqb (c .0) 0
 abbrev pub noSpot : Spot
 noSpot = record { start = 0; len = 0; value = valueOf 0 }
 
--- before the first child; or of bytes that are refused
+-- before the first child; or of bytes that the strict reading refuses
 abbrev pub emptySight : Bool → Sight
 emptySight b = record { good = b; turned = false; count = 0; found = found 0 false; child = childOf 0; here = noSpot; before = noSpot }
 
@@ -105,7 +104,7 @@ fitsKind leaf r = not (anyOf (misfits leaf) (childOf (r .first) ∷ map (λ (x :
 
 -- what is seen of what is scanned, behind what was seen so far
 unfoldable pub sightIn : Turn → Bool → List ℕ → Key → Sight → Scan → Sight
-sightIn t leaf s k v r = pick (isAccepted (r .ending) && fitsKind leaf r) (along t s k v (r .first) (r .rest)) (emptySight false)
+sightIn t leaf s k v r = pick (isWhole r && fitsKind leaf r) (along t s k v (r .first) (r .rest)) (emptySight false)
 
 unfoldable pub sightOf : Turn → Bool → List ℕ → Key → Sight
 sightOf t leaf s k = sightIn t leaf s k (emptySight true) (scanFrom s 8 0)
@@ -116,11 +115,6 @@ pub record Saw (t : Turn) (leaf : Bool) (s : List ℕ) (k : Key) (v : Sight) : T
   pub all-is : v .good ≡ true → v ≡ sightOf t leaf s k
 
 -- ---- what the parts of `search` hand back, behind a sight v of what stands before
-
--- where the bytes end so
-pub record EndsIn (e : Ending) (v r : Sight) : Type 0 where
-  pub accepted-is : isAccepted e ≡ true → r ≡ v
-  pub refused-is : isAccepted e ≡ false → r .good ≡ false
 
 -- with no separator to come, whatever the walk is for
 abbrev pub SeesLast : Bool → List ℕ → Sight → ℕ → Sight → Type 0

@@ -1,5 +1,4 @@
 // A walk along node bytes in one reading: the child where it turns down and the separators beside it. No places are built.
-use codec::Ending;
 use codec::Head;
 use codec::position::Found;
 use codec::position::is_equal;
@@ -11,7 +10,7 @@ use word::Order;
 ghost use mathlib.Core.Path.{_≡_};
 ghost use mathlib.Core.Bool.{true, false};
 ghost use Prim.Native.Nat.{_<_};
-ghost use Rattle.search.specs.Search.{barOf, rankOf, passes, meets, misfits, emptySight, behindSpot, atSpot, Saw, EndsIn, SeesLast, GoesOn};
+ghost use Rattle.search.specs.Search.{barOf, rankOf, passes, meets, misfits, emptySight, behindSpot, atSpot, Saw, SeesLast, GoesOn};
 
 // Where a walk along a node turns down: before the first separator, at the first whose key is not below the given one, at the
 // first above it, or behind the last.
@@ -30,8 +29,8 @@ pub struct Spot {
 }
 
 // What the walk sees. `found` is where it turns and whether the separator there has the key, `child` the child there; `here` is
-// the separator there, if it `turned` at one, and `before` the one just before, if there is one. Not `good`: the bytes are
-// refused, or their children don't fit.
+// the separator there, if it `turned` at one, and `before` the one just before, if there is one. Not `good`: the
+// strict reading refuses the bytes, or their children don't fit.
 pub struct Sight {
     pub good: bool,
     pub turned: bool,
@@ -130,16 +129,6 @@ impl Sight {
         sight
     }
 
-    // Where no further separator is read.
-    fn end_in(self, ending: Ending) -> Sight
-        ensures { λ r. ⌜ EndsIn ending self r ⌝ }
-    {
-        if ending.is_accepted() {
-            return self;
-        }
-        self.spoilt()
-    }
-
     // A separator that the walk goes on behind.
     fn go_behind(self, spot: Spot) -> Sight
         requires { ⌜ self .count < 8 ⌝ }
@@ -185,6 +174,9 @@ impl Sight {
         if is_misfit(child, leaf) {
             return self.spoilt();
         }
+        if at + 8 != s.len() {
+            return self.spoilt();
+        }
         let mut sight = self;
         if !sight.turned {
             sight.child = child;
@@ -212,7 +204,7 @@ impl Sight {
             let head = read_separator(s, at);
             match head {
                 Head::Ended(ending) => {
-                    return sight.end_in(ending);
+                    return sight.spoilt();
                 }
                 Head::Separator {
                     value,
@@ -220,6 +212,9 @@ impl Sight {
                     len,
                     plain,
                 } => {
+                    if !plain {
+                        return sight.spoilt();
+                    }
                     at = start + len;
                 }
             }
@@ -229,7 +224,7 @@ impl Sight {
     }
 }
 
-// "A node read must have .. readable bytes and children that fit its depth (none at 0; separators plus one above)".
+// "A node read must have .. bytes that read strictly and children that fit its depth (none at 0; separators plus one above)".
 pub fn search(s: &[u8], key: &[u8], turn: Turn, leaf: bool) -> Sight
     ensures { λ r. ⌜ Saw turn leaf (now (s .entry)) (now (key .entry)) r ⌝ }
 {
@@ -251,7 +246,7 @@ pub fn search(s: &[u8], key: &[u8], turn: Turn, leaf: bool) -> Sight
         let head = read_separator(s, at);
         match head {
             Head::Ended(ending) => {
-                return sight.end_in(ending);
+                return sight.spoilt();
             }
             Head::Separator {
                 value,
@@ -259,6 +254,9 @@ pub fn search(s: &[u8], key: &[u8], turn: Turn, leaf: bool) -> Sight
                 len,
                 plain,
             } => {
+                if !plain {
+                    return sight.spoilt();
+                }
                 let spot = Spot {
                     start: start,
                     len: len,

@@ -15,7 +15,7 @@ const MOST_ENTRIES: u32 = 200;
 // "A refusal writes one line: `refused` TAB number TAB applied."
 fn say_refused(number: u32, applied: usize) {
     let mut line = [0u8; 64];
-    let len = lines::write_refused(number, applied as u64, &mut line);
+    let len = cikolaro::write_refused(number, applied as u64, &mut line);
     if len <= 64 {
         io::write_all(STDOUT_FILENO, &line[..len]);
     }
@@ -24,7 +24,7 @@ fn say_refused(number: u32, applied: usize) {
 fn say_entry(key: &[u8], value: Value) {
     // two digits for each of 288 bytes, TAB, 20 digits, LF
     let mut line = [0u8; 600];
-    let len = lines::write_entry(key, value.0, &mut line);
+    let len = cikolaro::write_entry(key, value.0, &mut line);
     if len <= 600 {
         io::write_all(STDOUT_FILENO, &line[..len]);
     }

@@ -19,6 +19,7 @@ use Rattle.tree.proofs.Slots.{occurs-append}
 use Rattle.tree.proofs.Depth.{depth-limit}
 use Rattle.node.specs.Chain.{Step, Writable}
 use Rattle.codec.specs.Codec.{isAccepted, scan, Decoded, decode}
+use Rattle.codec.specs.Strict.{isStrict, strictEnd, strictOf}
 use Rattle.codec.proofs.Theorems.{scan-writable}
 use Rattle.slots.specs.Layout.{slotAt, used, start, rootOf, depthOf}
 use Rattle.slots.specs.Mirror.{lengthAt, nodeBytes, holdsNode, readOf, readNode}
@@ -51,13 +52,16 @@ pub record FineAt (x : ℕ) (m : Node ℕ ℕ) : Type 0 where
   pub slot : m .slot ≡ x
 
 pub read-writable : (s : List ℕ) (x : ℕ) → Bytes s → IfSome (FineAt x) (readNode s x)
-unfolding readNode decode nodeBytes
+unfolding readNode strictOf decode nodeBytes
 read-writable s x h =
     by-cond (IfSome (FineAt x)) (holdsNode s x)
     (λ q.
+    by-test (λ (o : Decoded). IfSome (FineAt x) (readOf x o)) (isStrict (strictEnd (nodeBytes s x) .ending))
+    (λ f.
     by-test (λ (o : Decoded). IfSome (FineAt x) (readOf x o)) (isAccepted (scan (nodeBytes s x) .ending))
     (λ e. record { fine = scan-writable (nodeBytes s x) (bytes-part s (start x + 4) (lengthAt s x) h); slot = refl })
     (λ e. tt))
+    (λ f. tt))
     (λ q. tt)
 
 -- a node in its slot, which is x

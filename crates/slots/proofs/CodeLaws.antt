@@ -19,6 +19,7 @@ use Rattle.word.proofs.PartLaws.{length-part, length-over, over-part, over-in, 
 use Rattle.word.proofs.NumLaws.{length-le, length-zeros, zeros-append, bytes-part}
 use Rattle.word.proofs.AtLaws.{writeAt-in, length-writeAt, clearAt-in}
 use Rattle.tree.specs.State.{AllRight}
+use Rattle.tree.proofs.Cases as cases
 use Rattle.node.specs.declared.Child.{Child}
 use Rattle.codec.specs.declared.Places.{Places}
 use Rattle.codec.specs.declared.Reading.{Reading}
@@ -29,6 +30,7 @@ use Rattle.codec.specs.declared.Ending.the-variants.{ShortChild}
 use Rattle.node.specs.Chain as chain
 use Rattle.node.specs.Chain.{Step, Writable, childOf, padded, nodeOf, stepsOf}
 use Rattle.codec.specs.Codec.{encode, decode, isAccepted, stop, settle, scanFrom, scan}
+use Rattle.codec.specs.Strict.{strictOf, standardOf}
 use Rattle.codec.specs.Mirror.{copied}
 use Rattle.codec.specs.Layout.{placesOf, readingOf, anyOf, anyFirst, writtenOf, leftBy, writtenNumber, writtenLength}
 use Rattle.codec.specs.Layout as layout
@@ -36,6 +38,7 @@ use Rattle.codec.proofs.EncodeLaws.{length-encode}
 use Rattle.codec.proofs.ReadLaws.{read-done}
 use Rattle.node.proofs.ChainLaws.{steps-node, first-node}
 use Rattle.codec.proofs.Theorems.{when-done, standard-most, writes-chain, scan-writable}
+use Rattle.codec.proofs.StrictLaws.{strict-flag}
 use Rattle.codec.proofs.WriteLaws.{AnyLeft, any-start, any-none, any-past, any-here, any-turn}
 use Rattle.slots.specs.declared.Formatted.{Formatted}
 use Rattle.slots.specs.declared.Formatted.the-variants.{Done, Refused}
@@ -43,7 +46,7 @@ use Rattle.slots.specs.Limits.{headerSize, slotSize, mostSlots, leastNod
 use Rattle.slots.specs.Layout.{header, idle, start, countOf, firstOf, isStore}
 use Rattle.slots.specs.Mirror.{isSlot, lengthAt, nodeBytes, holdsNode, readOf, readNode, writeNode, takeSlot, freeSlot, setRoot}
 use Rattle.slots.specs.Format.{blanks, fresh}
-use Rattle.slots.specs.Code.{hasSize, slotOf, bytesIn, placesIn, readingIn, firstIn, restIn, nodeIn, misfits, childrenFit, fitsDepth, placesAt, readingAt, chainFits, whenFit, readNodeAt, nodeRoom, writtenIn, hasFree, linked, formatNumber, Formats}
+use Rattle.slots.specs.Code.{hasSize, slotOf, rawIn, bytesIn, placesIn, readingIn, firstIn, restIn, nodeIn, misfits, childrenFit, fitsDepth, placesAt, readingAt, chainFits, whenFit, readNodeAt, nodeRoom, writtenIn, hasFree, linked, formatNumber, Formats}
 
 pub both-true : (a b : Bool) → (a && b) ≡ true → (a ≡ true) × (b ≡ true)
 both-true true b e = (refl, e)
@@ -150,12 +153,12 @@ module _ (s : List ℕ) (x : ℕ) where
 -- ---- the bytes of a node
 
 module _ (s : List ℕ) (x : ℕ) where
-  empty : holdsNode s x ≡ false → [] ≡ bytesIn s x
-  unfolding bytesIn
+  empty : holdsNode s x ≡ false → [] ≡ rawIn s x
+  unfolding rawIn
   empty e = sym (pickF _ _ e)
 
   module _ {m : ℕ} (slot : m ≡ slotOf s x) where
-    pub bytes-1 : m ≡ 0 → [] ≡ bytesIn s x
+    pub bytes-1 : m ≡ 0 → [] ≡ rawIn s x
     bytes-1 h = empty (unfold holdsNode in rw (no-slot s x slot h))
 
     module _ (there : m ≡ 0 → ⊥) {at len : ℕ} (begins : at ≡ start m) (says : len ≡ readAt 4 s at) where
@@ -166,18 +169,18 @@ module _ (s : List ℕ) (x : ℕ) where
       pub node-within : at + slotSize ≤ length s
       node-within = rw (begins, a-slot s x slot there .1) (whole s x (a-slot s x slot there .0) .within)
 
-      pub bytes-2 : len < leastNode → [] ≡ bytesIn s x
+      pub bytes-2 : len < leastNode → [] ≡ rawIn s x
       bytes-2 h = empty (unfold holdsNode in rw (a-slot s x slot there .0, lt-leb leastNode (lengthAt s x) (rw length-is at h)))
 
-      pub bytes-3 : leastNode ≤ len → mostNode < len → [] ≡ bytesIn s x
+      pub bytes-3 : leastNode ≤ len → mostNode < len → [] ≡ rawIn s x
       bytes-3 l h = empty (unfold holdsNode in rw (a-slot s x slot there .0, le-leb leastNode (lengthAt s x) (rw length-is at l), lt-leb (lengthAt s x) mostNode (rw length-is at h)))
 
       holds : leastNode ≤ len → len ≤ mostNode → holdsNode s x ≡ true
       unfolding holdsNode
       holds l h = rw (a-slot s x slot there .0, le-leb leastNode (lengthAt s x) (rw length-is at l), le-leb (lengthAt s x) mostNode (rw length-is at h))
 
-      pub bytes-4 : leastNode ≤ len → len ≤ mostNode → take ((at + 4 + len) - (at + 4)) (drop (at + 4) s) ≡ bytesIn s x
-      unfolding bytesIn nodeBytes part
+      pub bytes-4 : leastNode ≤ len → len ≤ mostNode → take ((at + 4 + len) - (at + 4)) (drop (at + 4) s) ≡ rawIn s x
+      unfolding rawIn nodeBytes part
       bytes-4 l h =
           let n : (at + 4 + len) - (at + 4) ≡ len = omega arith in
           rw n (rw (begins, a-slot s x slot there .1, length-is) (sym (pickT _ _ (holds l h))))
@@ -541,8 +544,32 @@ agree b =
 
 module _ (s : List ℕ) (x : ℕ) where
   pub bytes-small : Bytes s → Bytes (bytesIn s x)
-  unfolding bytesIn nodeBytes
-  bytes-small b = by-test Bytes (holdsNode s x) (λ e. bytes-part s (start x + 4) (lengthAt s x) b) (λ e. tt)
+  unfolding bytesIn rawIn nodeBytes
+  bytes-small b =
+      by-test Bytes (placesOf (rawIn s x) .standard) (λ f. by-test Bytes (holdsNode s x) (λ e. bytes-part s (start x + 4) (lengthAt s x) b) (λ e. tt)) (λ f. tt)
+
+  -- a node that is read is in standard form, and has all the bytes there
+  pub standard-in : isAccepted (placesIn s x .ending) ≡ true → placesIn s x .standard ≡ true
+  unfolding placesIn bytesIn layout.layout
+  standard-in =
+      by-test (λ (b : List ℕ). isAccepted (placesOf b .ending) ≡ true → placesOf b .standard ≡ true) (placesOf (rawIn s x) .standard)
+      (λ e h. e)
+      (λ e h. let z : _≡_ {A = Bool} false true = sym (ap (λ (p : Places). isAccepted (p .ending)) no-places) ∙ h in cc)
+
+  pub raw-in : placesIn s x .standard ≡ true → bytesIn s x ≡ rawIn s x
+  unfolding placesIn bytesIn layout.layout
+  raw-in =
+      by-test (λ (b : List ℕ). placesOf b .standard ≡ true → b ≡ rawIn s x) (placesOf (rawIn s x) .standard)
+      (λ e h. refl)
+      (λ e h. let z : _≡_ {A = Bool} false true = sym (ap (λ (p : Places). p .standard) no-places) ∙ h in cc)
+
+  pub places-are : {b : List ℕ} {p : Places} → b ≡ rawIn s x → p ≡ placesOf (standardOf b) → p ≡ placesIn s x
+  unfolding placesIn bytesIn
+  places-are e q = q ∙ ap (λ (b : List ℕ). placesOf (standardOf b)) e
+
+  pub reading-is : {b : List ℕ} {r : Reading} → b ≡ rawIn s x → r ≡ readingOf (standardOf b) → r ≡ readingIn s x
+  unfolding readingIn bytesIn
+  reading-is e q = q ∙ ap (λ (b : List ℕ). readingOf (standardOf b)) e
 
   -- the struct of an accepted reading, and of a refused one too, is that of the chain
   pub node-in : readingIn s x .node ≡ nodeOf (firstIn s x) (restIn s x)
@@ -561,16 +588,25 @@ module _ (s : List ℕ) (x : ℕ) where
   unfolding placesIn readingIn
   agree-in = agree (bytesIn s x)
 
+  nothing : readOf x (decode []) ≡ none
+  nothing = unfold decode pick in rw scan-none
+
+  read-strict : (b : List ℕ) → readOf x (strictOf b) ≡ readOf x (decode (standardOf b))
+  unfolding strictOf
+  read-strict b =
+      cases.by-bool (placesOf b .standard)
+      (λ e. ap (readOf x) (pickT _ _ (strict-flag b ∙ e)) ∙ ap (λ (t : List ℕ). readOf x (decode t)) (sym (pickT _ _ e)))
+      (λ e. ap (readOf x) (pickF _ _ (strict-flag b ∙ e)) ∙ sym (ap (λ (t : List ℕ). readOf x (decode t)) (pickF _ _ e) ∙ nothing))
+
   decoded : readNode s x ≡ readOf x (decode (bytesIn s x))
-  unfolding readNode bytesIn
+  unfolding readNode bytesIn rawIn
   decoded = by-bool (holdsNode s x)
     where
-      nothing : readOf x (decode []) ≡ none
-      nothing = unfold decode pick in rw scan-none
-
-      by-bool : (b : Bool) → cond b (readOf x (decode (nodeBytes s x))) none ≡ readOf x (decode (pick b (nodeBytes s x) []))
-      by-bool true = ap (λ (t : List ℕ). readOf x (decode t)) (sym (pickT {b = true} (nodeBytes s x) [] refl))
-      by-bool false = sym (ap (λ (t : List ℕ). readOf x (decode t)) (pickF {b = false} (nodeBytes s x) [] refl) ∙ nothing)
+      by-bool : (b : Bool) → cond b (readOf x (strictOf (nodeBytes s x))) none ≡ readOf x (decode (standardOf (pick b (nodeBytes s x) [])))
+      by-bool true = read-strict (nodeBytes s x) ∙ ap (λ (t : List ℕ). readOf x (decode (standardOf t))) (sym (pickT {b = true} (nodeBytes s x) [] refl))
+      by-bool false =
+          sym (ap (λ (t : List ℕ). readOf x (decode (standardOf t))) (pickF {b = false} (nodeBytes s x) [] refl)
+          ∙ by-test (λ (t : List ℕ). readOf x (decode t) ≡ none) (placesOf [] .standard) (λ e. nothing) (λ e. nothing))
 
   pub read-accepted : isAccepted (readingIn s x .ending) ≡ true → readNode s x ≡ some (nodeIn s x)
   unfolding readingIn readingOf decode
@@ -581,11 +617,21 @@ module _ (s : List ℕ) (x : ℕ) where
   read-refused h = decoded ∙ ap (readOf x) (pickF _ _ h)
 
   pub accepted-holds : isAccepted (readingIn s x .ending) ≡ true → holdsNode s x ≡ true
-  unfolding readingIn bytesIn
+  unfolding readingIn bytesIn rawIn
   accepted-holds =
-      by-test (λ (b : List ℕ). isAccepted (readingOf b .ending) ≡ true → holdsNode s x ≡ true) (holdsNode s x)
-      (λ e h. e)
-      (λ e h. let z : _≡_ {A = Bool} false true = sym (ap (λ (r : Reading). isAccepted (r .ending)) no-reading) ∙ h in cc)
+      by-test (λ (b : List ℕ). isAccepted (readingOf b .ending) ≡ true → holdsNode s x ≡ true) (placesOf (rawIn s x) .standard)
+      (λ f. by-test (λ (b : List ℕ). isAccepted (readingOf b .ending) ≡ true → holdsNode s x ≡ true) (holdsNode s x) (λ e h. e) no)
+      no
+    where
+      no : {b : Bool} → b ≡ false → isAccepted (readingOf [] .ending) ≡ true → holdsNode s x ≡ true
+      no e h = let z : _≡_ {A = Bool} false true = sym (ap (λ (r : Reading). isAccepted (r .ending)) no-reading) ∙ h in cc
+
+  pub accepted-standard : isAccepted (readingIn s x .ending) ≡ true → placesIn s x .standard ≡ true
+  accepted-standard h = standard-in (ap isAccepted (agree-in .ending) ∙ h)
+
+  pub accepted-bytes : isAccepted (readingIn s x .ending) ≡ true → bytesIn s x ≡ nodeBytes s x
+  unfolding rawIn
+  accepted-bytes h = raw-in (accepted-standard h) ∙ pickT _ _ (accepted-holds h)
 
   -- what was read stands in a slot, which is the one to write to
   pub accepted-slot : isAccepted (readingIn s x .ending) ≡ true → (isSlot s x ≡ true) × (slotOf s x ≡ x)
@@ -647,7 +693,7 @@ module _ (s : List ℕ) (x d : ℕ) where
   reading-fits : fitsDepth d (readingIn s x .node .count) (readingIn s x .node .children) ≡ chainFits d (firstIn s x) (restIn s x)
   reading-fits = ap (λ (n : struct.Node). fitsDepth d (n .count) (n .children)) (node-in s x) ∙ node-fits d (firstIn s x) (restIn s x)
 
-  places-fit : fitsDepth d (placesIn s x .count) (placesIn s x .children) ≡ chainFits d (firstIn s x) (restIn s x)
+  pub places-fit : fitsDepth d (placesIn s x .count) (placesIn s x .children) ≡ chainFits d (firstIn s x) (restIn s x)
   places-fit = rw (agree-in s x .count, agree-in s x .children) reading-fits
 
   module _ (e : chainFits d (firstIn s x) (restIn s x) ≡ true) where

@@ -11,6 +11,4 @@ pub mod Paragraph
 pub mod Theorems
 pub mod CodeLaws
 pub mod SpliceLaws
-pub mod BytesLaws
-pub mod NineLaws
 pub mod SearchLaws

@@ -27,9 +27,9 @@ use Rattle.codec.proofs.SpliceLaws.{splice-encode, splice-within, splice-place,
 use Rattle.slots.specs.Limits.{slotSize, leastNode, mostNode}
 use Rattle.slots.specs.Layout.{start}
 use Rattle.slots.specs.Mirror.{isSlot, lengthAt, nodeBytes, holdsNode, writeNode}
-use Rattle.slots.specs.Code.{bytesIn, placesIn, firstIn, restIn, nodeRoom}
+use Rattle.slots.specs.Code.{rawIn, bytesIn, placesIn, firstIn, restIn, nodeRoom}
 use Rattle.slots.specs.Splice.{laid, insertedBytes, revaluedBytes}
-use Rattle.slots.proofs.CodeLaws.{both-true, whole, given-back, bytes-small}
+use Rattle.slots.proofs.CodeLaws.{both-true, whole, given-back, bytes-small, raw-in}
 
 -- ---- lengths
 
@@ -149,8 +149,8 @@ module _ (s : List ℕ) (x i : ℕ) (e : Sep ℕ) (b : ℕ) (small : Bytes s) (h
   longer = take i (restIn s x) ++ ((e, b) ∷ drop i (restIn s x))
 
   bytes-are : bytesIn s x ≡ nodeBytes s x
-  unfolding bytesIn
-  bytes-are = pickT _ _ held
+  unfolding rawIn
+  bytes-are = raw-in s x plain ∙ pickT _ _ held
 
   record Sits : Type 0 where
     slot : isSlot s x ≡ true

@@ -20,9 +20,9 @@ use Rattle.tree.specs.Tree.{Node}
 use Rattle.tree.specs.Free.{firstFree}
 use Rattle.tree.proofs.Cases.{by-bool, by-cond}
 use Rattle.node.specs.Chain.{Step, Writable}
-use Rattle.codec.specs.Codec.{encode, isAccepted, accepted, decode}
-use Rattle.codec.proofs.EncodeLaws.{scan-finds}
+use Rattle.codec.specs.Codec.{encode}
 use Rattle.codec.proofs.Theorems.{standard-length, standard-most}
+use Rattle.codec.proofs.StrictLaws.{strict-encode}
 use Rattle.slots.specs.Limits.{headerSize, slotSize, leastNode, mostNode}
 use Rattle.slots.specs.Layout.{header, used, idle, headOf, start, slotAt, rootOf, depthOf, countOf, firstOf}
 use Rattle.slots.specs.Mirror.{isSlot, lengthAt, nodeBytes, holdsNode, readNode, writeNode, Took, takeSlot, freeSlot, setRoot}
@@ -88,10 +88,6 @@ module _ (s t : List ℕ) (head : headOf t ≡ headOf s) (size : length t ≡ le
 
 -- ---- a node in a slot
 
-pub decode-encode : (c : ℕ) (r : List Step) → Writable c r → decode (encode c r) ≡ accepted c r
-unfolding decode
-decode-encode c r w = let f = scan-finds (encode c r) c r (w .first) (w .rest) (w .most) refl in pickT _ _ (ap isAccepted (f .ending)) ∙ rw (f .first, f .rest)
-
 used-length : (c : ℕ) (r : List Step) → part (used c r) 0 4 ≡ le 4 (length (encode c r))
 unfolding used
 used-length c r = part-seam [] (le 4 (length (encode c r))) (encode c r ++ zeros (2556 - length (encode c r))) 0 4 refl (length-le 4 (length (encode c r)))
@@ -139,7 +135,7 @@ module _ (s : List ℕ) (m : Node ℕ ℕ) (is : isSlot s (m .slot) ≡ true) wh
         let l : ℕ = length (encode (m .first) (m .rest)) in
         let most = standard-most (m .first) (m .rest) (h .fine) in
         let least = standard-length (m .first) (m .rest) in
-        rw (is, length-at, le-leb 8 l (omega arith), le-leb l 2480 most, read-bytes, decode-encode (m .first) (m .rest) (h .fine))
+        rw (is, length-at, le-leb 8 l (omega arith), le-leb l 2480 most, read-bytes, strict-encode (m .first) (m .rest) (h .fine))
 
   module _ (f : Writable (m .first) (m .rest)) where
     write-is : writeNode s m ≡ over s (start (m .slot)) (used (m .first) (m .rest))

@@ -18,6 +18,7 @@ use Rattle.codec.specs.declared.Reading.{Reading}
 use Rattle.node.specs.Chain as chain
 use Rattle.node.specs.Chain.{Step, childOf, stepsOf}
 use Rattle.codec.specs.Codec.{scan, stepOf}
+use Rattle.codec.specs.Strict.{standardOf}
 use Rattle.codec.specs.Layout.{placesOf, readingOf, anyOf, writtenOf, writtenNumber}
 use Rattle.slots.specs.declared.Formatted.{Formatted}
 use Rattle.slots.specs.declared.Formatted.the-variants.{Done, Refused}
@@ -36,9 +37,13 @@ slotOf s x = pick (isSlot s x) x 0
 
 -- ---- reading
 
--- the bytes of the node that a slot holds; none, which no reading accepts, where it holds none
+-- the bytes that a slot has for its node; none, which no reading accepts, where it can hold none
+unfoldable pub rawIn : List ℕ → ℕ → List ℕ
+rawIn s x = pick (holdsNode s x) (nodeBytes s x) []
+
+-- the bytes of the node that a slot holds: those in standard form
 unfoldable pub bytesIn : List ℕ → ℕ → List ℕ
-bytesIn s x = pick (holdsNode s x) (nodeBytes s x) []
+bytesIn s x = standardOf (rawIn s x)
 
 unfoldable pub placesIn : List ℕ → ℕ → Places
 placesIn s x = placesOf (bytesIn s x)

@@ -11,7 +11,8 @@ use Rattle.word.specs.Part.{part, over}
 use Rattle.word.specs.Num.{le, zeros}
 use Rattle.word.specs.At.{readAt, writeAt}
 use Rattle.tree.specs.Tree.{Node}
-use Rattle.codec.specs.Codec.{encode, decode, Decoded, refused, accepted}
+use Rattle.codec.specs.Codec.{encode, Decoded, refused, accepted}
+use Rattle.codec.specs.Strict.{strictOf}
 use Rattle.slots.specs.Limits.{headerSize, slotSize, leastNode, mostNode}
 use Rattle.slots.specs.Layout.{start, countOf, firstOf}
 
@@ -34,9 +35,9 @@ abbrev pub readOf : ℕ → Decoded → Option (Node ℕ ℕ)
 readOf x (refused m) = none
 readOf x (accepted c r) = some (record { slot = x; first = c; rest = r })
 
--- the node in a slot, `none` where there is none or its bytes can't be read
+-- the node in a slot, `none` where there is none or the strict reading refuses its bytes
 unfoldable pub readNode : List ℕ → ℕ → Option (Node ℕ ℕ)
-readNode s x = cond (holdsNode s x) (readOf x (decode (nodeBytes s x))) none
+readNode s x = cond (holdsNode s x) (readOf x (strictOf (nodeBytes s x))) none
 
 -- the node, its length, zeros
 unfoldable pub writeNode : List ℕ → Node ℕ ℕ → List ℕ

@@ -10,11 +10,11 @@ use Rattle.search.specs.declared.Turn.{Turn}
 use Rattle.search.specs.declared.Sight.{Sight}
 use Rattle.codec.specs.Codec.{isAccepted}
 use Rattle.search.specs.Search.{sightOf, Sees}
-use Rattle.slots.specs.Code.{bytesIn, placesAt}
+use Rattle.slots.specs.Code.{rawIn, bytesIn, placesAt}
 
 -- a node at depth 0 is a leaf
 unfoldable pub sightAt : Turn → ℕ → List ℕ → ℕ → Key → Sight
-sightAt t d s x k = sightOf t (eqb d 0) (bytesIn s x) k
+sightAt t d s x k = sightOf t (eqb d 0) (rawIn s x) k
 
 -- what `search_at` hands back: good exactly where sightAt is, and then all of it
 pub record SawAt (t : Turn) (d : ℕ) (s : List ℕ) (x : ℕ) (k : Key) (v : Sight) : Type 0 where

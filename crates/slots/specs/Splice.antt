@@ -1,12 +1,10 @@
--- What is left of a store when a separator and the child right of it are put in among the bytes of the node in a slot, when a
--- value is replaced among them, and when a node's bytes are written. Assumes nothing.
+-- What is left of a store when a separator and the child right of it are put in among the bytes of the node in a slot and
+-- when a value is replaced among them. Assumes nothing.
 use mathlib.Core.List.{List}
 use Prim.Native.Nat.{ℕ, _+_, _-_}
-use lib.ListN.{length}
 use lib.Dec.{ltb, eqb}
 use Rattle.word.specs.Pick.{pick}
 use Rattle.word.specs.Part.{part, over}
-use Rattle.word.specs.Num.{zeros}
 use Rattle.word.specs.At.{fitsIn, writeAt, clearAt}
 use Rattle.tree.specs.Map.{Sep}
 use Rattle.codec.specs.Splice.{Spliced, spliceIn}
@@ -33,12 +31,4 @@ revaluedBytes s x p v =
     (pick (fitsIn (lengthAt s x) p 8)
     (clearAt (writeAt 8 s (start x + 4 + p) v) (start x + 4 + lengthAt s x) (nodeRoom - lengthAt s x))
     s))
-    s
-
--- the length of a node's bytes, the bytes, zeros to the end of the slot; nothing where the slot doesn't take them
-unfoldable pub writtenBytes : List ℕ → ℕ → List ℕ → List ℕ
-writtenBytes s x b =
-    pick (isSlot s x)
-    (pick (ltb nodeRoom (length b)) s
-    (over (writeAt 4 (over s (start x + 4) b) (start x) (length b)) (start x + 4 + length b) (zeros (nodeRoom - length b))))
     s

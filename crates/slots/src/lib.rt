@@ -3,12 +3,11 @@
 ghost use mathlib.Core.Path.{_≡_};
 ghost use Prim.Native.Nat.{_-_};
 ghost use lib.ListN.{length};
-ghost use Rattle.word.specs.At.{copyAt};
 ghost use Rattle.slots.specs.Layout.{start, rootOf, depthOf, countOf, firstOf, isStore};
 ghost use Rattle.slots.specs.Mirror.{isSlot, takeSlot, freeSlot, setRoot};
-ghost use Rattle.slots.specs.Code.{hasSize, slotOf, bytesIn, placesIn, readingIn, misfits, fitsDepth, readingAt, writtenIn, hasFree, linked, formatNumber, Formats};
+ghost use Rattle.slots.specs.Code.{hasSize, slotOf, rawIn, placesIn, readingIn, misfits, fitsDepth, readingAt, writtenIn, hasFree, linked, formatNumber, Formats};
 ghost use Rattle.slots.specs.Search.{SawAt};
-ghost use Rattle.slots.specs.Splice.{insertedBytes, revaluedBytes, writtenBytes};
+ghost use Rattle.slots.specs.Splice.{insertedBytes, revaluedBytes};
 use codec::Places;
 use codec::Reading;
 use node::Child;
@@ -159,7 +158,7 @@ pub fn is_slot(store: &[u8], number: u64) -> bool
 
 // The bytes of the node in a slot; empty where there is no such slot or it has no node's length.
 pub fn node_bytes(store: &[u8], child: Child) -> &[u8]
-    ensures { λ r. ⌜ now r ≡ bytesIn (now (store .entry)) (child .0) ⌝ }
+    ensures { λ r. ⌜ now r ≡ rawIn (now (store .entry)) (child .0) ⌝ }
 {
     let slot = slot_of(store, child);
     if slot.0 == 0 {
@@ -178,28 +177,18 @@ pub fn node_bytes(store: &[u8], child: Child) -> &[u8]
     &store[from..to]
 }
 
-// Those bytes at the front of a destination, where it takes them: how many they are.
-pub fn copy_bytes(store: &[u8], child: Child, dst: &mut [u8]) -> usize
-    ensures { λ r. ⌜ (r ≡ length (bytesIn (now (store .entry)) (child .0))) × (now (dst .exit) ≡ copyAt (now (dst .entry)) 0 (bytesIn (now (store .entry)) (child .0)) 0 (length (bytesIn (now (store .entry)) (child .0)))) ⌝ }
-{
-    let bytes = node_bytes(store, child);
-    let len = bytes.len();
-    word::copy(dst, 0, bytes, 0, len);
-    len
-}
-
-// That node's places; those of no bytes, which are refused, where there is none.
+// That node's places, where its bytes are in standard form; else those of no bytes, which are refused.
 pub fn read_places(store: &[u8], child: Child) -> Places
     ensures { λ r. ⌜ r ≡ placesIn (now (store .entry)) (child .0) ⌝ }
 {
-    Places::read(node_bytes(store, child))
+    Places::read_standard(node_bytes(store, child))
 }
 
 // The same as a whole node.
 pub fn read_node(store: &[u8], child: Child) -> Reading
     ensures { λ r. ⌜ r ≡ readingIn (now (store .entry)) (child .0) ⌝ }
 {
-    codec::read(node_bytes(store, child))
+    codec::read_standard(node_bytes(store, child))
 }
 
 // ---- the child test of a depth
@@ -288,24 +277,6 @@ pub fn write_node(store: &mut [u8], slot: Slot, node: Node)
     if len == 0 {
         return;
     }
-    word::write_u32(store, at, len as u32);
-    word::clear(store, from + len, NODE_ROOM - len);
-}
-
-// The same of a node's bytes: nothing where there is no slot or they are too many.
-pub fn write_bytes(store: &mut [u8], slot: Slot, bytes: &[u8])
-    ensures { λ _. ⌜ now (store .exit) ≡ writtenBytes (now (store .entry)) (slot .0) (now (bytes .entry)) ⌝ }
-{
-    if !is_slot(store, slot.0 as u64) {
-        return;
-    }
-    let len = bytes.len();
-    if NODE_ROOM < len {
-        return;
-    }
-    let at = start_of(slot);
-    let from = at + 4;
-    word::copy(store, from, bytes, 0, len);
     word::write_u32(store, at, len as u32);
     word::clear(store, from + len, NODE_ROOM - len);
 }

@@ -10,5 +10,6 @@ pub mod readings;
 pub mod report;
 pub mod runs;
 pub mod shape;
+pub mod sloppy;
 pub mod small;
 pub mod walk;

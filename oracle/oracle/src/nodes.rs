@@ -39,7 +39,7 @@ pub fn few(most: usize, random: &mut Random) -> usize {
 }
 
 /// A u64 that isn't 0, of any size.
-fn address(random: &mut Random) -> u64 {
+pub fn address(random: &mut Random) -> u64 {
     (random.any() >> random.below(64)).max(1)
 }
 

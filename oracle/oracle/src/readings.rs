@@ -1,9 +1,12 @@
-//! Node readings: what the original answers, in 01's numbers.
+//! Node readings: what the original answers, in 01's numbers, and what the
+//! strict reading owes to it.
 
 use crate::model::codec::{
-    self, Reading, Refused, CHILD_CUT, HEAD_CUT, KEY_CUT, KEY_TOO_LONG, LONGEST_KEY, SIZE_CUT,
+    self, add_separator, Reading, Refused, StrictRefused, BYTES_BEHIND, CHILD_CUT, HEAD_CUT,
+    KEY_CUT, KEY_TOO_LONG, LONGEST_KEY, LONG_SIZE_SMALL, MOST_SEPARATORS, SEPARATOR_ZERO, SIZE_CUT,
 };
-use original::btree::glue::{read_node, Error, NodeParts};
+use crate::nodes::add_long_separator;
+use original::btree::glue::{read_node, write_node, Error, NodeParts};
 
 /// The original's complaints and 01's numbers for them.
 const COMPLAINTS: [(&str, u8); 4] = [
@@ -70,4 +73,83 @@ fn check_too_long(bytes: &[u8], refused: &Refused) {
     assert!(last.0.len() > LONGEST_KEY);
     assert!(before.iter().all(|(key, _)| key.len() <= LONGEST_KEY));
     assert_eq!(before.len(), refused.before.separators.len());
+}
+
+/// The strict reading's answer. The original has no such reading, but it fixes
+/// this one: accepted is what it reads and would write, byte for byte. Panics
+/// where a refusal isn't the lenient one's (4, 11 to 14), or isn't what stands
+/// at its place (18 to 20).
+pub fn strict_answer(bytes: &[u8]) -> Result<Reading, StrictRefused> {
+    let lenient = answer(bytes);
+    let strict = codec::read_strict(bytes);
+    let is_standard = lenient.is_ok() && is_what_is_written(bytes);
+    assert_eq!(strict.is_ok(), is_standard, "reading {bytes:?} strictly");
+    match &strict {
+        Ok(node) => assert_eq!(lenient.as_ref(), Ok(node), "reading {bytes:?}"),
+        Err(refused) => check_place(bytes, refused, lenient.err()),
+    }
+    strict
+}
+
+/// Whether the original reads the bytes, and writes the same again.
+fn is_what_is_written(bytes: &[u8]) -> bool {
+    let written = read_node(bytes).and_then(|node| write_node(&node));
+    written.is_ok_and(|written| written == bytes)
+}
+
+/// Before the place stands what is written, as far as it goes: up to a child,
+/// but for 11, where the child is missing.
+fn check_place(bytes: &[u8], refused: &StrictRefused, lenient: Option<u8>) {
+    let StrictRefused { number, place } = *refused;
+    let (front, there) = bytes.split_at(place);
+    let child: &[u8] = if number == CHILD_CUT { &[0; 8] } else { &[] };
+    let front = [front, child].concat();
+    let is_there = is_what_is_written(&front) && stands(&front, there, number);
+    assert!(is_there, "{refused:?} of {bytes:?}");
+    let is_strict_only = [LONG_SIZE_SMALL, SEPARATOR_ZERO, BYTES_BEHIND].contains(&number);
+    let is_both = lenient == Some(number);
+    assert!(is_strict_only || is_both, "{refused:?} of {bytes:?}");
+}
+
+/// Whether the number says what stands behind the front.
+fn stands(front: &[u8], there: &[u8], number: u8) -> bool {
+    let before = read_node(front).map_or(0, |node| node.separators.len());
+    match number {
+        CHILD_CUT => there.len() < 8,
+        BYTES_BEHIND => before == MOST_SEPARATORS && !there.is_empty(),
+        _ => before < MOST_SEPARATORS && separator_stands(there, number),
+    }
+}
+
+/// The same for a separator, by putting together what has to stand there. 12,
+/// 13 and 14 are the original's, so only their kind of cut is looked at.
+fn separator_stands(there: &[u8], number: u8) -> bool {
+    let (is_long, head) = match there.get(8) {
+        Some(0xFF) => (true, 13),
+        _ => (false, 9),
+    };
+    if there.len() < head {
+        return number == if is_long { SIZE_CUT } else { HEAD_CUT };
+    }
+    let value = number_in(&there[..8]);
+    let length = number_in(if is_long { &there[9..13] } else { &there[8..9] });
+    let Some(key) = there.get(head..head + length as usize) else {
+        return number == KEY_CUT;
+    };
+    let mut sloppy = Vec::new();
+    add_long_separator(&mut sloppy, key, value);
+    let mut standard = Vec::new();
+    add_separator(&mut standard, key, value);
+    match number {
+        LONG_SIZE_SMALL => there.starts_with(&sloppy) && sloppy != standard,
+        SEPARATOR_ZERO => there.starts_with(&standard) && value == 0,
+        KEY_TOO_LONG => there.starts_with(&standard) && value != 0 && key.len() > LONGEST_KEY,
+        _ => false,
+    }
+}
+
+fn number_in(bytes: &[u8]) -> u64 {
+    let mut number = [0; 8];
+    number[..bytes.len()].copy_from_slice(bytes);
+    u64::from_le_bytes(number)
 }

@@ -29,6 +29,15 @@ fn both(changes: &[Change]) -> (Original, Store) {
 
 /// A store that need not be good: node bytes in slots 1, 2, ...
 fn store(root: u64, depth: u32, nodes: &[(&[u64], &[Pair])]) -> (Original, Bytes) {
+    store_of(root, depth, nodes.iter().map(written).collect())
+}
+
+fn written((children, separators): &(&[u64], &[Pair])) -> Vec<u8> {
+    codec::write(children, separators).expect("it can be written")
+}
+
+/// The same with bytes that the writer need not make.
+fn store_of(root: u64, depth: u32, nodes: Vec<Vec<u8>>) -> (Original, Bytes) {
     let theirs = Original::new(Numbering::AsTheyCome).expect("an empty tree opens");
     theirs.put_header(root, depth);
     let mut ours = Bytes {
@@ -37,8 +46,7 @@ fn store(root: u64, depth: u32, nodes: &[(&[u64], &[Pair])]) -> (Original, Bytes
         count: nodes.len() as u64,
         nodes: Default::default(),
     };
-    for (slot, (children, separators)) in (1..).zip(nodes) {
-        let bytes = codec::write(children, separators).expect("it can be written");
+    for (slot, bytes) in (1..).zip(nodes) {
         theirs.put_node(slot, &bytes);
         ours.nodes.insert(slot, bytes);
     }
@@ -203,6 +211,66 @@ fn d10_a_seek_without_root_complains_of_a_depth() {
     for from in steps {
         assert_eq!(ours.step(&from), Ok((None, false)));
     }
+}
+
+/// A sloppy leaf that holds `z`, on the right of a root with `m`; its standard
+/// form; and the number that the strict reading has for it. The original reads
+/// on: it finds what stands in the leaf and steps on it. Ours answers 8 where a
+/// walk reads the leaf, and as the original where it doesn't. The lenient
+/// reading of the leaf's bytes reads what the original reads.
+fn check_sloppy(leaf: &[u8], standard: &[u8], number: u8) {
+    let root = written(&(&[2, 3], &[pair(b"m", 1)]));
+    let left = written(&(&[], &[pair(b"a", 2)]));
+    let (theirs, ours) = store_of(1, 1, vec![root, left, leaf.to_vec()]);
+    let z = original_answer(leaf).expect("it is readable").separators[0].clone();
+    assert_eq!(z.0, b"z");
+    assert_eq!(theirs.get(b"z"), Ok(Some(z.1)));
+    assert_eq!(ours.lookup(b"z"), Err(BAD));
+    for (key, value) in [(b"a", 2), (b"m", 1)] {
+        assert_eq!(theirs.get(key), Ok(Some(value)));
+        assert_eq!(ours.lookup(key), Ok(Some(value)));
+    }
+
+    let mut iterator = theirs.cursor().unwrap();
+    iterator.seek(b"z").unwrap();
+    assert_eq!(iterator.forward(), Ok(Some(z)));
+    assert_eq!(ours.step(&From::Seeked(b"z")), Err(BAD));
+    let first = Some(pair(b"a", 2));
+    assert_eq!(theirs.cursor().unwrap().forward(), Ok(first.clone()));
+    assert_eq!(ours.step(&From::Start), Ok((first, false)));
+
+    let refused = codec::read_strict(leaf).expect_err("it is sloppy");
+    assert_eq!(refused.number, number);
+    assert!(leaf != standard);
+    assert_eq!(original_answer(leaf), original_answer(standard));
+    let read = codec::read(leaf).expect("the lenient reading reads it");
+    assert_eq!(read.children, codec::read(standard).unwrap().children);
+    let key = &leaf[read.separators[0].key.clone()];
+    assert_eq!((key, read.separators[0].value), (&b"z"[..], 3));
+    assert!(codec::read_strict(standard).is_ok());
+}
+
+#[test]
+fn d11_a_long_size_for_a_short_key_is_read() {
+    let standard = written(&(&[], &[pair(b"z", 3)]));
+    let mut sloppy = standard.clone();
+    sloppy.splice(16..17, [255, 1, 0, 0, 0]);
+    check_sloppy(&sloppy, &standard, codec::LONG_SIZE_SMALL);
+}
+
+#[test]
+fn d11_a_value_of_0_ends_a_node() {
+    let standard = written(&(&[], &[pair(b"z", 3)]));
+    let sloppy = [&standard[..], &[0; 9]].concat();
+    check_sloppy(&sloppy, &standard, codec::SEPARATOR_ZERO);
+}
+
+#[test]
+fn d11_bytes_behind_the_ninth_child_are_ignored() {
+    let full: Vec<Pair> = (b'z'..).take(8).map(|key| pair(&[key], 3)).collect();
+    let standard = written(&(&[], &full));
+    let sloppy = [&standard[..], &[0]].concat();
+    check_sloppy(&sloppy, &standard, codec::BYTES_BEHIND);
 }
 
 /// Limits that 01 adds. The original sorts what isn't sorted, takes any number

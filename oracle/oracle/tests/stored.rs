@@ -11,7 +11,7 @@ use oracle::report::report;
 use oracle::shape;
 use oracle::small;
 use original::btree::glue::{Change, Pair};
-use std::collections::BTreeMap;
+use std::collections::{BTreeMap, BTreeSet};
 
 #[test]
 fn stored_files_are_what_the_generator_makes() {
@@ -94,11 +94,13 @@ fn blocks(file: &[u8]) -> Vec<Front<'_>> {
 #[test]
 fn node_readings_replay() {
     let file = stored("node_readings.bin");
-    let mut numbers: BTreeMap<usize, usize> = BTreeMap::new();
+    let mut lenient = Numbers::new();
+    let mut strict = Numbers::new();
+    let mut places = Places::new();
     for mut block in blocks(&file) {
         let input = block.part();
         let number = block.byte();
-        *numbers.entry(number).or_default() += 1;
+        *lenient.entry(number).or_default() += 1;
         match codec::read(input) {
             Err(refused) => assert_eq!(usize::from(refused.number), number),
             Ok(node) => {
@@ -106,15 +108,48 @@ fn node_readings_replay() {
                 check_node(&mut block, &node);
             }
         }
+        let number = check_strict(&mut block, input, &mut places);
+        *strict.entry(number).or_default() += 1;
         block.end();
     }
-    assert!(numbers.values().sum::<usize>() >= 20_000);
+    assert!(lenient.values().sum::<usize>() >= 20_000);
+    for at in 0..8 {
+        assert!(places[&(18, at)] >= 30 && places[&(19, at)] >= 30);
+    }
+    assert!(places[&(20, 8)] >= 300);
+    tell("node_readings_replay, lenient", &lenient);
+    tell("node_readings_replay, strict", &strict);
+}
+
+/// How often a number was met.
+type Numbers = BTreeMap<usize, usize>;
+
+/// The same, by number and by how many separators stand before the place.
+type Places = BTreeMap<(usize, usize), usize>;
+
+fn tell(test: &str, numbers: &Numbers) {
     let counts: Vec<_> = numbers
         .iter()
         .map(|(n, count)| (format!("answered {n}"), *count))
         .collect();
     let counts: Vec<_> = counts.iter().map(|(w, n)| (w.as_str(), *n)).collect();
-    report("node_readings_replay", &counts);
+    report(test, &counts);
+}
+
+/// The strict answer's number.
+fn check_strict(block: &mut Front, input: &[u8], places: &mut Places) -> usize {
+    let number = block.byte();
+    let place = block.short();
+    match codec::read_strict(input) {
+        Err(refused) => {
+            let told = (usize::from(refused.number), refused.place);
+            assert_eq!(told, (number, place));
+        }
+        Ok(_) => assert_eq!((number, place), (0, input.len())),
+    }
+    let before = codec::read_strict(&input[..place]).map_or(0, |node| node.separators.len());
+    *places.entry((number, before)).or_default() += 1;
+    number
 }
 
 fn check_node(block: &mut Front, node: &codec::Reading) {
@@ -163,6 +198,8 @@ fn walks_replay() {
     let blocks = blocks(&file);
     let stores = blocks.len();
     let mut numbers = [0; 9];
+    let mut sloppy = 0;
+    let mut at_depth_1 = BTreeSet::new();
     for mut block in blocks {
         let mut buffer = vec![0; block.word()];
         for _ in 0..block.short() {
@@ -172,17 +209,38 @@ fn walks_replay() {
         }
         ask_all(&mut block, &buffer, &mut numbers);
         block.end();
+        if let Ok(store) = buffer::store(&buffer) {
+            let nodes = sloppy_nodes(&store);
+            sloppy += usize::from(!nodes.is_empty());
+            at_depth_1.extend(nodes.into_iter().filter(|_| store.depth == 1));
+        }
     }
+    let kinds = [18, 19, 20].map(|number| [(number, false), (number, true)]);
+    assert_eq!(at_depth_1, kinds.into_iter().flatten().collect());
     report(
         "walks_replay",
         &[
             ("stores", stores),
+            ("of them with sloppy nodes", sloppy),
             ("questions", numbers.iter().sum()),
             ("answers 1", numbers[1]),
             ("answers 4", numbers[4]),
             ("answers 8", numbers[8]),
         ],
     );
+}
+
+/// The numbers for nodes that the lenient reading alone reads, and whether
+/// each is the root.
+fn sloppy_nodes(store: &Bytes) -> Vec<(u8, bool)> {
+    let has_length = |bytes: &[u8]| (8..=2480).contains(&bytes.len());
+    let nodes = store.nodes.iter().filter(|(_, bytes)| has_length(bytes));
+    let sloppy = nodes.filter_map(|(slot, bytes)| {
+        codec::read(bytes).ok()?;
+        let refused = codec::read_strict(bytes).err()?;
+        Some((refused.number, *slot == store.root))
+    });
+    sloppy.collect()
 }
 
 fn ask_all(block: &mut Front, buffer: &[u8], numbers: &mut [usize; 9]) {

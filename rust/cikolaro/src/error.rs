@@ -1,8 +1,8 @@
-//! 01's refusals.
+//! The refusals of 01 and 02.
 
 use std::fmt;
 
-/// Why something was refused: 01's numbers, as far as this crate gives them.
+/// Why something was refused: 01's numbers, and from 18 on 02's.
 #[derive(Clone, Copy, Debug, PartialEq, Eq, Hash)]
 #[repr(u32)]
 pub enum Refusal {
@@ -20,21 +20,35 @@ pub enum Refusal {
     Falls = 6,
     /// A 65,536th record.
     TooMany = 7,
-    /// The audit fails, or a walk meets a bad node.
+    /// The audit fails, or a walk meets a node that is bad or not in standard form.
     Fails = 8,
     /// Too few free slots.
     NoRoom = 9,
     /// The destination is too short for a node. This crate lends enough, so nothing here answers it.
     ShortDestination = 10,
+    /// Node bytes: under 8 are left for a child.
+    ShortChild = 11,
+    /// Node bytes: under 9 are left for a separator's head, which is its value and the byte for its length.
+    ShortHead = 12,
+    /// Node bytes: under 4 are left for a length behind 0xFF.
+    ShortSize = 13,
+    /// Node bytes: a key is cut short.
+    ShortKey = 14,
     /// A bad text line, or too much text.
     BadText = 15,
     /// More than 8 separators in a node that is to be written.
     TooManySeparators = 16,
+    /// Node bytes, read strictly: 0xFF stands before a length below 255.
+    LowSize = 18,
+    /// Node bytes, read strictly: a separator has the value 0.
+    ZeroValue = 19,
+    /// Node bytes, read strictly: bytes follow the ninth child.
+    BytesBehind = 20,
 }
 
 impl Refusal {
     /// All of them, by number.
-    pub const ALL: [Refusal; 12] = [
+    pub const ALL: [Refusal; 19] = [
         Refusal::NotStore,
         Refusal::FewMarks,
         Refusal::Short,
@@ -45,11 +59,18 @@ impl Refusal {
         Refusal::Fails,
         Refusal::NoRoom,
         Refusal::ShortDestination,
+        Refusal::ShortChild,
+        Refusal::ShortHead,
+        Refusal::ShortSize,
+        Refusal::ShortKey,
         Refusal::BadText,
         Refusal::TooManySeparators,
+        Refusal::LowSize,
+        Refusal::ZeroValue,
+        Refusal::BytesBehind,
     ];
 
-    /// 01's number.
+    /// Its number.
     ///
     /// ```
     /// assert_eq!(cikolaro::Refusal::NoRoom.number(), 9);
@@ -76,8 +97,15 @@ impl Refusal {
             Refusal::Fails => "the store fails its audit",
             Refusal::NoRoom => "no room: too few free slots",
             Refusal::ShortDestination => "the destination is too short for the node",
+            Refusal::ShortChild => "under 8 bytes are left for a child",
+            Refusal::ShortHead => "under 9 bytes are left for a separator's value and length",
+            Refusal::ShortSize => "under 4 bytes are left for a length behind 0xFF",
+            Refusal::ShortKey => "a key is cut short",
             Refusal::BadText => "a bad line, or more text than one batch takes",
             Refusal::TooManySeparators => "a node has more than 8 separators",
+            Refusal::LowSize => "0xFF stands before a length below 255",
+            Refusal::ZeroValue => "a separator has the value 0",
+            Refusal::BytesBehind => "bytes follow the ninth child",
         }
     }
 }

@@ -1,7 +1,8 @@
 //! A B-tree of order 8 in a byte store that the caller lends, proved.
 //!
 //! The functions that read and change a store are written in Rattle and proved to meet their contracts for all inputs; this crate
-//! calls them and adds Rust's types. "01" is document 01 of the project, which says what the tree must do.
+//! calls them and adds Rust's types. "01" is document 01 of the project, which says what the tree must do, and "02" the one that
+//! changes it.
 //!
 //! ```
 //! use cikolaro::{Batch, Store};
@@ -24,6 +25,7 @@ mod batch;
 mod cursor;
 mod error;
 pub mod lines;
+pub mod node;
 pub mod raw;
 mod store;
 pub mod view;

@@ -1,4 +1,4 @@
-//! The exported functions as they are, with 01's numbers: for callers that lend marks and cursors themselves. include/cikolaro.h says
+//! The exported functions as they are, with their numbers: for callers that lend marks and cursors themselves. include/cikolaro.h says
 //! what each answers and leaves. They ask nothing of a caller but what Rust's references say, so no test stands before a call.
 
 use crate::{LONGEST_KEY, MOST_SEPARATORS};
@@ -76,6 +76,15 @@ extern "C" {
         length: *mut usize,
         value: *mut u64,
     ) -> u32;
+    fn cikolaro_node_read_strict(bytes: *const u8, bytes_len: usize, count: *mut usize, place: *mut usize) -> u32;
+    fn cikolaro_node_separator_strict(
+        bytes: *const u8,
+        bytes_len: usize,
+        index: usize,
+        start: *mut usize,
+        length: *mut usize,
+        value: *mut u64,
+    ) -> u32;
     fn cikolaro_node_write(
         count: usize,
         children: *const u64,
@@ -108,7 +117,7 @@ pub struct LentNode {
 
 impl LentNode {
     /// The node of these children and separators, as far as it can be lent: what is too much the writer refuses by its count or length.
-    pub fn of(children: &[u64], separators: &[(Vec<u8>, u64)]) -> LentNode {
+    pub fn of<K: AsRef<[u8]>>(children: &[u64], separators: &[(K, u64)]) -> LentNode {
         let mut node = LentNode {
             count: separators.len(),
             children: [0; MOST_SEPARATORS + 1],
@@ -118,6 +127,7 @@ impl LentNode {
         };
         node.children.iter_mut().zip(children).for_each(|(to, child)| *to = *child);
         for (at, (key, value)) in separators.iter().take(MOST_SEPARATORS).enumerate() {
+            let key = key.as_ref();
             node.values[at] = *value;
             node.lengths[at] = key.len();
             node.keys[LONGEST_KEY * at..][..LONGEST_KEY].iter_mut().zip(key).for_each(|(to, byte)| *to = *byte);
@@ -245,7 +255,7 @@ pub fn backward(store: &[u8], cursor: &mut Lent) -> Answer {
     step(cikolaro_backward, store, cursor)
 }
 
-/// The number, and how many separators the node has.
+/// The number of the lenient reading, and how many separators the node has.
 pub fn node_read(bytes: &[u8]) -> (u32, usize) {
     let mut count = 0;
     // SAFETY: the bytes are borrowed for reading, the count for writing, for the call.
@@ -271,10 +281,52 @@ pub fn node_child(bytes: &[u8], index: usize) -> u64 {
 /// assert_eq!(raw::node_read(&[]), (11, 0));
 /// ```
 pub fn node_separator(bytes: &[u8], index: usize) -> (&[u8], u64) {
+    separator(cikolaro_node_separator, bytes, index)
+}
+
+/// What `cikolaro_node_separator` and `cikolaro_node_separator_strict` are called with.
+type SeparatorBy = unsafe extern "C" fn(*const u8, usize, usize, *mut usize, *mut usize, *mut u64) -> u32;
+
+fn separator(by: SeparatorBy, bytes: &[u8], index: usize) -> (&[u8], u64) {
     let (mut start, mut length, mut value) = (0, 0, 0);
     // SAFETY: the bytes are borrowed for reading, the three numbers for writing, for the call.
-    unsafe { cikolaro_node_separator(bytes.as_ptr(), bytes.len(), index, &mut start, &mut length, &mut value) };
+    unsafe { by(bytes.as_ptr(), bytes.len(), index, &mut start, &mut length, &mut value) };
     (&bytes[start..start + length], value)
+}
+
+/// The number of the strict reading, how many separators the node has, and a place: where the refused child or separator begins, or the
+/// first byte behind the ninth child; for accepted bytes how many they are.
+///
+/// ```
+/// use cikolaro::raw;
+///
+/// // Child 0, value 5, 0xFF before a key of two bytes, child 0.
+/// let sloppy = [&[0; 8][..], &5u64.to_le_bytes(), &[0xFF, 2, 0, 0, 0, 0x61, 0x62], &[0; 8]].concat();
+/// assert_eq!(raw::node_read(&sloppy), (0, 1));
+/// assert_eq!(raw::node_read_strict(&sloppy), (18, 0, 8));
+/// let plain = [&sloppy[..16], &[2], &sloppy[21..]].concat();
+/// assert_eq!(raw::node_read_strict(&plain), (0, 1, 27));
+/// ```
+pub fn node_read_strict(bytes: &[u8]) -> (u32, usize, usize) {
+    let (mut count, mut place) = (0, 0);
+    // SAFETY: the bytes are borrowed for reading, the two numbers for writing, for the call.
+    let number = unsafe { cikolaro_node_read_strict(bytes.as_ptr(), bytes.len(), &mut count, &mut place) };
+    (number, count, place)
+}
+
+/// As [`node_separator`], by the strict reading. Its children are those that [`node_child`] gives.
+///
+/// ```
+/// use cikolaro::raw;
+///
+/// let plain = [&[0; 8][..], &5u64.to_le_bytes(), &[2, 0x61, 0x62], &[0; 8]].concat();
+/// assert_eq!(raw::node_separator_strict(&plain, 0), (&b"ab"[..], 5));
+/// assert_eq!(raw::node_separator_strict(&plain, 1), (&b""[..], 0));
+/// let cut_short = &plain[..20];
+/// assert_eq!(raw::node_separator_strict(cut_short, 0), (&b""[..], 0));
+/// ```
+pub fn node_separator_strict(bytes: &[u8], index: usize) -> (&[u8], u64) {
+    separator(cikolaro_node_separator_strict, bytes, index)
 }
 
 /// The number, and how many bytes of the destination the node's standard form takes, 0 if refused.

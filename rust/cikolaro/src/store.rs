@@ -56,7 +56,8 @@ impl<B: AsRef<[u8]>> Store<B> {
         Ok(store)
     }
 
-    /// The bytes as a store, whatever they hold: what is asked of them then is answered or refused.
+    /// The bytes as a store, whatever they hold: what is asked of them then is answered or refused, a walk that meets a node which is bad or
+    /// not in standard form with 8.
     pub fn unaudited(bytes: B) -> Store<B> {
         Store { bytes }
     }

@@ -1,9 +1,7 @@
 //! The tree of an audited store, to look at. This is Rust and not proved; it reads only what the proved audit has passed. A node's
-//! bytes are written by the proved writer.
+//! bytes are read and written by the proved functions.
 
-use crate::error::done;
-use crate::raw::{self, LentNode};
-use crate::{Refusal, Store, HEADER_SIZE, LONGEST_NODE, SLOT_SIZE};
+use crate::{node, Refusal, Store, HEADER_SIZE, SLOT_SIZE};
 
 /// A node and what stands below it.
 #[derive(Clone, Debug, PartialEq, Eq)]
@@ -43,11 +41,7 @@ impl Node {
     /// ```
     pub fn bytes(&self) -> Result<Vec<u8>, Refusal> {
         let children: Vec<u64> = self.children.iter().map(|child| u64::from(child.slot)).collect();
-        let mut bytes = vec![0; LONGEST_NODE];
-        let (number, length) = raw::node_write(&LentNode::of(&children, &self.separators), &mut bytes);
-        done(number)?;
-        bytes.truncate(length);
-        Ok(bytes)
+        node::write(&children, &self.separators)
     }
 
     /// Calls f with each node and how far it is below this one, parents first.
@@ -89,7 +83,7 @@ pub fn tree<B: AsRef<[u8]>>(store: &Store<B>) -> Result<Tree, Refusal> {
     Ok(Tree {
         count: store.count(),
         depth: number(bytes, 8, 4) as u32,
-        root: (root != 0).then(|| node(bytes, root)),
+        root: (root != 0).then(|| below(bytes, root)),
         free,
     })
 }
@@ -102,22 +96,14 @@ fn start(slot: u32) -> usize {
     HEADER_SIZE + SLOT_SIZE * (slot as usize - 1)
 }
 
-fn node(bytes: &[u8], slot: u32) -> Node {
+/// The node in a slot, and what stands below it.
+fn below(bytes: &[u8], slot: u32) -> Node {
     let from = start(slot) + 4;
-    let node_bytes = &bytes[from..from + number(bytes, start(slot), 4) as usize];
-    let mut children = vec![number(node_bytes, 0, 8) as u32];
-    let mut separators = Vec::new();
-    let mut at = 8;
-    while at < node_bytes.len() {
-        let value = number(node_bytes, at, 8);
-        let (length, key) = match node_bytes[at + 8] {
-            255 => (number(node_bytes, at + 9, 4) as usize, at + 13),
-            short => (usize::from(short), at + 9),
-        };
-        separators.push((node_bytes[key..key + length].to_vec(), value));
-        children.push(number(node_bytes, key + length, 8) as u32);
-        at = key + length + 8;
+    let length = number(bytes, start(slot), 4) as usize;
+    let read = node::read_strict(&bytes[from..from + length]).expect("the audit has passed it");
+    Node {
+        slot,
+        separators: read.separators.iter().map(|(key, value)| (key.to_vec(), *value)).collect(),
+        children: read.children.iter().filter(|child| **child != 0).map(|child| below(bytes, *child as u32)).collect(),
     }
-    children.retain(|&child| child != 0);
-    Node { slot, separators, children: children.into_iter().map(|child| node(bytes, child)).collect() }
 }

@@ -3,6 +3,7 @@
 use std::io::{self, BufWriter, IsTerminal, Write};
 use std::path::Path;
 
+use cikolaro::node::{self, Node};
 use cikolaro::view::{self, Tree};
 use cikolaro::{lines, store_size, Batch, Cursor, Entries, Error, Refusal, Store, MOST_RECORDS, MOST_SLOTS};
 
@@ -208,4 +209,34 @@ pub fn picture(words: &[String]) -> Done {
         Some(out) => files::replace(out, svg.as_bytes()),
         None => piped(io::stdout().write_all(svg.as_bytes())),
     }
+}
+
+pub fn node(words: &[String]) -> Done {
+    let args = Args::of(words, &["--strict"], &[], 1, 1)?;
+    let bytes = node_bytes(&args.plain[0])?;
+    let node = if args.has("--strict") { node::read_strict(&bytes)? } else { node::read(&bytes)? };
+    let mut out = BufWriter::new(io::stdout().lock());
+    piped(write_node(&mut out, &node).and_then(|()| out.flush()))
+}
+
+fn write_node(out: &mut impl Write, node: &Node) -> io::Result<()> {
+    writeln!(out, "{}", node.children[0])?;
+    for ((key, value), child) in node.separators.iter().zip(&node.children[1..]) {
+        writeln!(out, "{}\t{value}\t{child}", lines::hex(key))?;
+    }
+    Ok(())
+}
+
+/// So much hex is read at once: whole bytes, and less than one text may have.
+const HEX_AT_ONCE: usize = 8_000;
+
+/// The bytes that a word in hex says; for `-` those of standard input, where an LF may end them.
+fn node_bytes(word: &str) -> Result<Vec<u8>, Failure> {
+    let text = match word {
+        "-" => files::read_text(None)?,
+        hex => format!("{hex}\n").into_bytes(),
+    };
+    let hex = text.strip_suffix(b"\n").unwrap_or(&text);
+    let parts: Result<Vec<Vec<u8>>, Refusal> = hex.chunks(HEX_AT_ONCE).map(lines::parse_key).collect();
+    Ok(parts.map_err(|_| Failure::Usage("node bytes are lowercase hex, two digits a byte".into()))?.concat())
 }

@@ -2,13 +2,24 @@
 
 use std::process::ExitCode;
 
-use cikolaro::{Error, Refusal};
+use cikolaro::{node, Error, Refusal};
 
 pub enum Failure {
     Absent,
     Usage(String),
     File(String),
     Refused(Error),
+    /// Node bytes, refused at a place.
+    RefusedAt(node::Refused),
+}
+
+/// The exit status for a refusal.
+fn status(refusal: Refusal) -> u8 {
+    match refusal {
+        Refusal::NotStore | Refusal::Fails => 5,
+        Refusal::NoRoom => 6,
+        _ => 4,
+    }
 }
 
 impl Failure {
@@ -17,11 +28,8 @@ impl Failure {
             Failure::Absent => 1,
             Failure::Usage(_) => 2,
             Failure::File(_) => 3,
-            Failure::Refused(error) => match error.refusal {
-                Refusal::NotStore | Refusal::Fails => 5,
-                Refusal::NoRoom => 6,
-                _ => 4,
-            },
+            Failure::Refused(error) => status(error.refusal),
+            Failure::RefusedAt(refused) => status(refused.refusal),
         }
     }
 
@@ -34,6 +42,10 @@ impl Failure {
             Failure::Refused(error) => {
                 println!("refused\t{}\t{}", error.refusal.number(), error.applied);
                 eprintln!("cikolaro: {}", error.refusal);
+            }
+            Failure::RefusedAt(refused) => {
+                println!("refused\t{}\t{}", refused.refusal.number(), refused.place);
+                eprintln!("cikolaro: {refused}");
             }
         }
         ExitCode::from(self.status())
@@ -49,5 +61,11 @@ impl From<Refusal> for Failure {
 impl From<Error> for Failure {
     fn from(error: Error) -> Failure {
         Failure::Refused(error)
+    }
+}
+
+impl From<node::Refused> for Failure {
+    fn from(refused: node::Refused) -> Failure {
+        Failure::RefusedAt(refused)
     }
 }

@@ -10,12 +10,13 @@ cikolaro: proved B-tree stores in files
   cikolaro scan FILE           entries in key order
   cikolaro stat FILE           how full the store is
   cikolaro picture FILE [OUT]  the tree as an SVG
+  cikolaro node HEX            what a node's bytes say
 
 `cikolaro COMMAND --help` says more. Keys are lowercase hex, values decimal.
 
 A refusal writes `refused` TAB number TAB records applied to standard output, and its meaning to standard error.
-Exit status: 0 done; 1 the key is absent; 2 bad usage; 3 a file can't be read or written; 4 the input is refused (3 to 7, 15);
-5 the store is refused (1, 8); 6 no room (9).
+Exit status: 0 done; 1 the key is absent; 2 bad usage; 3 a file can't be read or written; 4 the input is refused (3 to 7, 11 to 15,
+18 to 20); 5 the store is refused (1, 8); 6 no room (9).
 A file is replaced as a whole or not at all.
 ";
 
@@ -28,6 +29,7 @@ pub fn of(command: &str) -> Option<&'static str> {
         "scan" => SCAN,
         "stat" => STAT,
         "picture" => PICTURE,
+        "node" => NODE,
         _ => return None,
     })
 }
@@ -90,4 +92,21 @@ Writes the tree as an SVG to OUT, or to standard output: each node with its slot
 printable, else in hex; long ones cut). The store is audited first.
 
   --most N  refuse a tree of more than N nodes (default 400)
+";
+
+const NODE: &str = "\
+cikolaro node [--strict] HEX
+
+Reads the bytes of one node, in lowercase hex; from standard input, where an LF may end them, if HEX is `-`. Writes a line with the first
+child, then one for each separator: key TAB value TAB the child behind it. A child is a slot number, or 0 for none.
+
+  --strict  take only what a store itself would write: refuse 0xFF before a length below 255 (18), a separator with value 0 (19) and
+            bytes behind the ninth child (20)
+
+Without --strict such a length is read, such a separator ends the node, and bytes behind the end are ignored. Either way refused are
+under 8 bytes for a child (11), under 9 for a separator's value and length (12), under 4 for a length behind 0xFF (13), a key cut short
+(14) and a key over 288 bytes (4).
+
+A refusal writes `refused` TAB number TAB 0, and with --strict `refused` TAB number TAB place: the offset where the refused child or
+separator begins (a separator begins with its value), or for 20 that of the first byte behind the ninth child.
 ";

@@ -46,6 +46,7 @@ fn run(words: &[String]) -> Result<(), Failure> {
         "get" => commands::get(rest),
         "scan" => commands::scan(rest),
         "stat" => commands::stat(rest),
+        "node" => commands::node(rest),
         _ => commands::picture(rest),
     }
 }

@@ -226,7 +226,7 @@ fn files_that_are_not_there_and_bad_words_are_told() {
 #[test]
 fn help_is_there_for_each_command() {
     assert!(ended(&tool(&["--help"])).0.contains("Exit status"));
-    for command in ["format", "audit", "apply", "get", "scan", "stat", "picture"] {
+    for command in ["format", "audit", "apply", "get", "scan", "stat", "picture", "node"] {
         let (text, status) = ended(&tool(&[command, "--help"]));
         assert_eq!(status, 0);
         assert!(text.starts_with(&format!("cikolaro {command} ")), "{text}");
@@ -251,4 +251,95 @@ fn a_split_can_be_looked_at() {
     assert_eq!(ended(&tool(&["picture", &store, &out])), ok(""));
     assert_eq!(fs::read_to_string(&out).unwrap(), svg);
     assert_eq!(ended(&tool(&["picture", &store, "--most", "2"])).1, 2);
+}
+
+const SEVEN: &str = "0700000000000000";
+const FIVE: &str = "0500000000000000";
+const ZERO: &str = "0000000000000000";
+
+/// A node of so many separators, key `6162`, value 5, every child 7.
+fn node_hex(separators: usize) -> String {
+    format!("{SEVEN}{}", format!("{FIVE}026162{SEVEN}").repeat(separators))
+}
+
+#[test]
+fn a_node_in_standard_form_is_shown_by_both_readings() {
+    let one = node_hex(1);
+    let shown = ok("7\n6162\t5\t7\n");
+    for words in [vec!["node", &one], vec!["node", "--strict", &one], vec!["node", &one, "--strict"]] {
+        assert_eq!(ended(&tool(&words)), shown, "{words:?}");
+    }
+    assert_eq!(ended(&tool(&["node", "--strict", ZERO])), ok("0\n"));
+    assert_eq!(ended(&tool(&["node", "--strict", &node_hex(8)])), ok(&format!("7\n{}", "6162\t5\t7\n".repeat(8))));
+    let long = format!("{ZERO}{FIVE}ff20010000{}{ZERO}", "61".repeat(288));
+    assert_eq!(ended(&tool(&["node", "--strict", &long])), ok(&format!("0\n{}\t5\t0\n", "61".repeat(288))));
+}
+
+#[test]
+fn a_node_is_read_from_standard_input() {
+    let (one, shown) = (node_hex(1), ok("7\n6162\t5\t7\n"));
+    for text in [one.clone(), format!("{one}\n")] {
+        assert_eq!(ended(&tool_fed(&["node", "-"], text.as_bytes())), shown);
+        assert_eq!(ended(&tool_fed(&["node", "--strict", "-"], text.as_bytes())), shown);
+    }
+    // More hex than one text of house lines has.
+    let much = format!("{}{}", node_hex(8), "00".repeat(20_000));
+    assert_eq!(ended(&tool_fed(&["node", "-"], much.as_bytes())), ended(&tool(&["node", &node_hex(8)])));
+    assert_eq!(ended(&tool_fed(&["node", "--strict", "-"], much.as_bytes())), ("refused\t20\t160\n".to_string(), 4));
+}
+
+#[test]
+fn sloppy_node_bytes_are_refused_by_the_strict_reading_alone() {
+    let (one, full) = (node_hex(1), node_hex(8));
+    let shown = "7\n6162\t5\t7\n";
+    let cases = [
+        (
+            format!("{SEVEN}{FIVE}ff020000006162{SEVEN}"),
+            shown,
+            18,
+            8,
+            "a length below 255; the separator begins at byte 8",
+        ),
+        (format!("{one}{ZERO}00"), shown, 19, 27, "the value 0; the separator begins at byte 27"),
+        (format!("{full}00"), &format!("7\n{}", "6162\t5\t7\n".repeat(8)), 20, 160, "they begin at byte 160"),
+    ];
+    for (hex, lenient, number, place, meaning) in cases {
+        assert_eq!(ended(&tool(&["node", &hex])), ok(lenient), "{hex}");
+        let output = tool(&["node", "--strict", &hex]);
+        assert_eq!(ended(&output), (format!("refused\t{number}\t{place}\n"), 4), "{hex}");
+        assert!(said(&output).starts_with(&format!("cikolaro: refused {number}: ")), "{}", said(&output));
+        assert!(said(&output).trim_end().ends_with(meaning), "{}", said(&output));
+    }
+}
+
+#[test]
+fn bad_node_bytes_are_refused_by_both_readings() {
+    let one = node_hex(1);
+    let cases = [
+        (String::new(), 11, 0, "the child begins at byte 0"),
+        (one[..2 * 20].to_string(), 11, 19, "the child begins at byte 19"),
+        (format!("{one}{FIVE}"), 12, 27, "the separator begins at byte 27"),
+        (format!("{one}{FIVE}ff000000"), 13, 27, "the separator begins at byte 27"),
+        (format!("{one}{FIVE}0261"), 14, 27, "the separator begins at byte 27"),
+        (format!("{SEVEN}{FIVE}ff21010000{}{SEVEN}", "61".repeat(289)), 4, 8, "the separator begins at byte 8"),
+    ];
+    for (hex, number, place, meaning) in cases {
+        assert_eq!(ended(&tool(&["node", &hex])), (format!("refused\t{number}\t0\n"), 4), "{hex}");
+        let output = tool(&["node", "--strict", &hex]);
+        assert_eq!(ended(&output), (format!("refused\t{number}\t{place}\n"), 4), "{hex}");
+        assert!(said(&output).trim_end().ends_with(meaning), "{}", said(&output));
+    }
+}
+
+#[test]
+fn what_is_no_hex_is_told() {
+    for hex in ["0", "0g", "AA", "00 00", "0x00", "00\n", "é"] {
+        let output = tool(&["node", hex]);
+        assert_eq!(ended(&output), (String::new(), 2), "{hex:?}");
+        assert!(said(&output).contains("lowercase hex"), "{}", said(&output));
+    }
+    for text in [&b"00\n00\n"[..], b"00\r\n", b"0", &[255]] {
+        assert_eq!(ended(&tool_fed(&["node", "-"], text)), (String::new(), 2), "{text:?}");
+    }
+    assert_eq!(ended(&tool(&["node"])), (String::new(), 2));
 }

@@ -3,6 +3,8 @@
 use oracle::model::buffer::{start_of, SLOT};
 use oracle::model::codec;
 
+use crate::nodes::pairs_of;
+
 /// The number, and the slots that are reached.
 pub fn audit(store: &[u8], words: usize) -> (u32, Vec<u64>) {
     if oracle::model::buffer::store(store).is_err() {
@@ -61,8 +63,7 @@ fn visit(
     holds((8..=2480).contains(&length) && bytes[4 + length..].iter().all(|b| *b == 0))?;
     let node = &bytes[4..4 + length];
     let reading = codec::read(node).ok()?;
-    let pairs: Vec<(Vec<u8>, u64)> =
-        reading.separators.iter().map(|s| (node[s.key.clone()].to_vec(), s.value)).collect();
+    let pairs = pairs_of(node, &reading);
     holds(codec::write(&reading.children, &pairs).ok()? == node)?;
     let least = if !is_root { 4 } else { usize::from(depth > 0) };
     holds(pairs.len() >= least)?;

@@ -13,10 +13,10 @@ use original::btree::glue::Pair;
 use crate::audit::audit;
 use crate::history::lent;
 use crate::shrink::shrunk;
-use crate::{same, Compared, Counts};
+use crate::{same, sloppy, Compared, Counts};
 
 /// Bytes put at a place.
-type Edit = (usize, Vec<u8>);
+pub type Edit = (usize, Vec<u8>);
 
 pub fn case(random: &mut Random, counts: &mut Counts) -> Compared {
     let keys = *random.pick(&[Keys::Bytes, Keys::Short, Keys::Words, Keys::Long]);
@@ -79,11 +79,16 @@ fn with(good: &[u8], edits: &[Edit]) -> Vec<u8> {
     store
 }
 
-/// A change where it is likely to matter: header, a slot's front, a child, any byte.
+/// A change where it is likely to matter: header, a slot's front, a child, any byte; or a node that is still readable, but not strictly.
 fn edit(good: &[u8], random: &mut Random) -> Edit {
     let count = (good.len() - 24) / 2560;
     let start = 24 + 2560 * random.below(count);
     let byte = *random.pick(&[0, 1, 2, 3, 7, 8, 9, 97, 255, count as u8, count as u8 + 1]);
+    if random.percent(25) {
+        if let Some(edit) = sloppy::edit(good, start, random) {
+            return edit;
+        }
+    }
     match random.below(10) {
         0 => (random.below(24), vec![byte]),
         1 => (8, vec![random.below(10) as u8]),
@@ -100,13 +105,17 @@ fn check(store: &[u8], questions: &[Vec<u8>], seed: u64, counts: &mut Counts) ->
     let mut random = Random::new(seed);
     counts.damaged_stores += 1;
     audits(store, &mut random, counts)?;
+    let lenient = sloppy::lenient(store);
+    counts.sloppy_stores += usize::from(lenient.is_some());
     for key in questions {
         let told = buffer::store(store).and_then(|s| s.lookup(key));
         same("lookup", answered(raw::lookup(store, key)), told.map_err(u32::from))?;
+        counts.sloppy_walks += usize::from(sloppy::differs(store, &lenient, |s| s.lookup(key)));
         for place in [Place::Start, Place::End, Place::At(key.clone()), Place::Seeked(key.clone())] {
             for way in [Way::Forward, Way::Backward] {
                 steps(store, &place, way, &mut random)?;
                 counts.damaged_answers += 1;
+                counts.sloppy_walks += usize::from(sloppy::differs(store, &lenient, |s| s.walk(&place, way)));
             }
         }
     }

@@ -45,10 +45,11 @@ fn digit(b: u8) -> Option<u8> {
 
 /// "Hex of odd length .. 15"; the empty text is the empty key.
 fn hex_key(hex: &[u8]) -> Option<Vec<u8>> {
-    if hex.len() % 2 != 0 {
+    let bytes = hex.chunks_exact(2);
+    if !bytes.remainder().is_empty() {
         return None;
     }
-    hex.chunks(2).map(|pair| Some(digit(pair[0])? * 16 + digit(pair[1])?)).collect()
+    bytes.map(|pair| Some(digit(pair[0])? * 16 + digit(pair[1])?)).collect()
 }
 
 /// "no signs or leading zeros; a lone 0 is a value"; "a value above a u64 [is] 15".

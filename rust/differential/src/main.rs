@@ -9,6 +9,7 @@ mod lines;
 mod nodes;
 mod records;
 mod shrink;
+mod sloppy;
 
 use std::process::ExitCode;
 
@@ -26,10 +27,17 @@ pub struct Counts {
     pub refused_batches: usize,
     pub damaged_stores: usize,
     pub damaged_answers: usize,
+    /// Damaged stores with a node that only the lenient reading takes, and answers there that a lenient walk would give otherwise.
+    pub sloppy_stores: usize,
+    pub sloppy_walks: usize,
     pub audits_passed: usize,
     pub audits_failed: usize,
     pub node_readings: usize,
     pub node_refusals: usize,
+    pub strict_readings: usize,
+    pub strict_refusals: usize,
+    /// Those with 18, 19 and 20.
+    pub refused_18_19_20: [usize; 3],
     pub node_writings: usize,
     pub writings_refused: usize,
     pub texts: usize,

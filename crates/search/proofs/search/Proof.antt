@@ -5,7 +5,7 @@ use borrow.Author.Tests.{not-false}
 use Rattle.word.proofs.AtLaws.{fitted}
 use Rattle.search.specs.declared.Sight.{Sight}
 use Rattle.codec.proofs.ScanLaws.{head-within}
-use Rattle.search.proofs.SearchCode.{Going, going-start, going-short, going-misfit, going-whole, going-end, going-turn, going-behind, going-last}
+use Rattle.search.proofs.SearchCode.{Going, going-start, going-short, going-misfit, going-whole, going-end, going-low, going-turn, going-behind, going-last}
 use native.Mathlib.Omega.{arith}
 use borrow.Author.Needs.{needs}
 use Rattle.search.proofs.search.Statement.{statement}
@@ -36,19 +36,21 @@ search-spec =
     (λ c. going-whole _ _ _ _ _ _ (c .before .before .before .before .before .before .before .before .loop .inv) (c .before .before .before .before .before .before .if1 .taken) (c .before .before .before .before .before .fits2 .ensures) (c .before .before .before .before .if2 .left) (c .before .before .before .read-u64 .ensures) (c .before .before .is-misfit .ensures) (c .before .if3 .left) (c .if4 .taken))  -- returns-3
     (λ c κs. search needs)  -- read-separator-requires
     (λ c. search needs)  -- enum-known-head
-    (λ c κs. search needs)  -- end-in-requires
-    (λ c. going-end _ _ _ _ _ _ (c .before .before .before .before .before .before .before .before .before .before .before .before .before .loop .inv) (c .before .before .before .before .before .before .before .before .before .before .before .if1 .taken) (c .before .before .before .before .before .before .before .before .before .before .fits2 .ensures) (c .before .before .before .before .before .before .before .before .before .if2 .left) (c .before .before .before .before .before .before .before .before .read-u64 .ensures) (c .before .before .before .before .before .before .before .is-misfit .ensures) (c .before .before .before .before .before .before .if3 .left) (c .before .before .before .before .before .if4 .left) (c .before .before .before .before .read-separator .ensures) (c .before .before .head .given .1) (c .end-in .ensures))  -- returns-4
+    (λ c κs. search needs)  -- spoilt-requires-3
+    (λ c. going-end _ _ _ _ _ _ (c .before .before .before .before .before .before .before .before .before .before .before .before .before .loop .inv) (c .before .before .before .before .before .before .before .before .before .before .before .if1 .taken) (c .before .before .before .before .before .before .before .before .before .before .fits2 .ensures) (c .before .before .before .before .before .before .before .before .before .if2 .left) (c .before .before .before .before .before .before .before .before .read-u64 .ensures) (c .before .before .before .before .before .before .before .is-misfit .ensures) (c .before .before .before .before .before .before .if3 .left) (c .before .before .before .before .before .if4 .left) (c .before .before .before .before .read-separator .ensures) (c .before .before .head .given .1) (c .spoilt3 .ensures))  -- returns-4
     (λ c. search needs)  -- enum-known-head-2
-    (λ c. omega (arith, head-within _ _ (c .before .before .before .read-separator .ensures) (c .before .head2 .given .1), c .before .before .before .before .before .before .before .before .before .before .before .before .before .before .before .before .good .0 .0))  -- add-at-2
+    (λ c κs. search needs)  -- spoilt-requires-4
+    (λ c. going-low _ _ _ _ _ _ (c .before .before .before .before .before .before .before .before .before .before .before .before .before .before .loop .inv) (c .before .before .before .before .before .before .before .before .before .before .before .before .if1 .taken) (c .before .before .before .before .before .before .before .before .before .before .before .fits2 .ensures) (c .before .before .before .before .before .before .before .before .before .before .if2 .left) (c .before .before .before .before .before .before .before .before .before .read-u64 .ensures) (c .before .before .before .before .before .before .before .before .is-misfit .ensures) (c .before .before .before .before .before .before .before .if3 .left) (c .before .before .before .before .before .before .if4 .left) (c .before .before .before .before .before .read-separator .ensures) (c .before .before .before .head2 .given .1) (c .before .if5 .taken) (c .spoilt4 .ensures))  -- returns-5
+    (λ c. omega (arith, head-within _ _ (c .before .before .before .before .read-separator .ensures) (c .before .before .head2 .given .1), c .before .before .before .before .before .before .before .before .before .before .before .before .before .before .before .before .before .good .0 .0))  -- add-at-2
     (λ c κs. search needs)  -- compare-part-requires
     (λ c κs. search needs)  -- passes-requires
     (λ c κs. search needs)  -- meets-requires
-    (λ c κs. omega (arith, c .before .before .before .before .before .before .before .before .before .before .before .before .before .before .if1 .taken))  -- turn-at-requires
+    (λ c κs. omega (arith, c .before .before .before .before .before .before .before .before .before .before .before .before .before .before .before .if1 .taken))  -- turn-at-requires
     (λ c κs. search needs)  -- go-on-requires
-    (λ c. going-turn _ _ _ _ _ _ (c .before .before .before .before .before .before .before .before .before .before .before .before .before .before .before .before .before .before .loop .inv) (c .before .before .before .before .before .before .before .before .before .before .before .before .before .before .before .before .if1 .taken) (c .before .before .before .before .before .before .before .before .before .before .before .before .before .before .before .fits2 .ensures) (c .before .before .before .before .before .before .before .before .before .before .before .before .before .before .if2 .left) (c .before .before .before .before .before .before .before .before .before .before .before .before .before .read-u64 .ensures) (c .before .before .before .before .before .before .before .before .before .before .before .before .is-misfit .ensures) (c .before .before .before .before .before .before .before .before .before .before .before .if3 .left) (c .before .before .before .before .before .before .before .before .before .before .if4 .left) (c .before .before .before .before .before .before .before .before .before .read-separator .ensures) (c .before .before .before .before .before .before .before .head2 .given .1) (c .before .before .before .before .before .compare-part .ensures) (c .before .before .before .before .passes .ensures) (c .before .before .before .if5 .taken) (c .before .before .meets .ensures) (c .before .turn-at .ensures) (c .go-on .ensures))  -- returns-5
-    (λ c κs. omega (arith, c .before .before .before .before .before .before .before .before .before .before .before .before .before .if1 .taken))  -- go-behind-requires
-    (λ c. omega (arith, c .before .before .before .before .before .before .before .before .before .before .before .before .before .before .if1 .taken, ap (λ (v : Sight). v .count) (c .go-behind .ensures)))  -- loop-less
-    (λ c. going-behind _ _ _ _ _ _ (c .before .before .before .before .before .before .before .before .before .before .before .before .before .before .before .before .loop .inv) (c .before .before .before .before .before .before .before .before .before .before .before .before .before .before .if1 .taken) (c .before .before .before .before .before .before .before .before .before .before .before .before .before .fits2 .ensures) (c .before .before .before .before .before .before .before .before .before .before .before .before .if2 .left) (c .before .before .before .before .before .before .before .before .before .before .before .read-u64 .ensures) (c .before .before .before .before .before .before .before .before .before .before .is-misfit .ensures) (c .before .before .before .before .before .before .before .before .before .if3 .left) (c .before .before .before .before .before .before .before .before .if4 .left) (c .before .before .before .before .before .before .before .read-separator .ensures) (c .before .before .before .before .before .head2 .given .1) (c .before .before .before .compare-part .ensures) (c .before .before .passes .ensures) (c .before .if5 .left) (c .go-behind .ensures))  -- loop-again
+    (λ c. going-turn _ _ _ _ _ _ (c .before .before .before .before .before .before .before .before .before .before .before .before .before .before .before .before .before .before .before .loop .inv) (c .before .before .before .before .before .before .before .before .before .before .before .before .before .before .before .before .before .if1 .taken) (c .before .before .before .before .before .before .before .before .before .before .before .before .before .before .before .before .fits2 .ensures) (c .before .before .before .before .before .before .before .before .before .before .before .before .before .before .before .if2 .left) (c .before .before .before .before .before .before .before .before .before .before .before .before .before .before .read-u64 .ensures) (c .before .before .before .before .before .before .before .before .before .before .before .before .before .is-misfit .ensures) (c .before .before .before .before .before .before .before .before .before .before .before .before .if3 .left) (c .before .before .before .before .before .before .before .before .before .before .before .if4 .left) (c .before .before .before .before .before .before .before .before .before .before .read-separator .ensures) (c .before .before .before .before .before .before .before .before .head2 .given .1) (c .before .before .before .before .before .before .if5 .left) (c .before .before .before .before .before .compare-part .ensures) (c .before .before .before .before .passes .ensures) (c .before .before .before .if6 .taken) (c .before .before .meets .ensures) (c .before .turn-at .ensures) (c .go-on .ensures))  -- returns-6
+    (λ c κs. omega (arith, c .before .before .before .before .before .before .before .before .before .before .before .before .before .before .if1 .taken))  -- go-behind-requires
+    (λ c. omega (arith, c .before .before .before .before .before .before .before .before .before .before .before .before .before .before .before .if1 .taken, ap (λ (v : Sight). v .count) (c .go-behind .ensures)))  -- loop-less
+    (λ c. going-behind _ _ _ _ _ _ (c .before .before .before .before .before .before .before .before .before .before .before .before .before .before .before .before .before .loop .inv) (c .before .before .before .before .before .before .before .before .before .before .before .before .before .before .before .if1 .taken) (c .before .before .before .before .before .before .before .before .before .before .before .before .before .before .fits2 .ensures) (c .before .before .before .before .before .before .before .before .before .before .before .before .before .if2 .left) (c .before .before .before .before .before .before .before .before .before .before .before .before .read-u64 .ensures) (c .before .before .before .before .before .before .before .before .before .before .before .is-misfit .ensures) (c .before .before .before .before .before .before .before .before .before .before .if3 .left) (c .before .before .before .before .before .before .before .before .before .if4 .left) (c .before .before .before .before .before .before .before .before .read-separator .ensures) (c .before .before .before .before .before .before .head2 .given .1) (c .before .before .before .before .if5 .left) (c .before .before .before .compare-part .ensures) (c .before .before .passes .ensures) (c .before .if6 .left) (c .go-behind .ensures))  -- loop-again
     (λ c κs. search needs)  -- end-last-requires
-    (λ c. going-last _ _ _ _ _ _ (c .before .before .before .loop .inv) (c .before .if1 .left) (c .end-last .ensures))  -- returns-6
+    (λ c. going-last _ _ _ _ _ _ (c .before .before .before .loop .inv) (c .before .if1 .left) (c .end-last .ensures))  -- returns-7
     )

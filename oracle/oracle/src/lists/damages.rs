@@ -1,5 +1,5 @@
-//! Damaged stores, one for each cause of a walk's 8 and of refusal 1, and some
-//! that an audit refuses and a walk doesn't.
+//! Damaged stores, one for each cause of a walk's 8 and of refusal 1, some
+//! that an audit refuses and a walk doesn't, and some with sloppy nodes.
 
 use super::frame::Frame;
 use super::walks::{laid_out, put, put_node, Asking, Kind};
@@ -29,16 +29,44 @@ const KEYS: [&[u8]; 14] = [
 
 const LETTERS: [&[u8]; 6] = [b"", b"a", b"m", b"n", b"x", b"z"];
 
+/// Keys that are asked of a store with full nodes.
+const FULL_KEYS: [&[u8]; 16] = [
+    b"",
+    &[5],
+    &[20],
+    &[25],
+    &[30],
+    &[50],
+    &[55],
+    &[57],
+    &[70],
+    &[75],
+    &[100],
+    &[200],
+    &[205],
+    &[222],
+    &[240],
+    &[240, 1],
+];
+
 pub fn blocks() -> Vec<Frame> {
-    let whole = whole();
     let mut blocks = Vec::new();
-    for damage in HEADERS.iter().chain(&NODES) {
-        let mut buffer = whole.clone();
-        damage(&mut buffer);
-        blocks.push(asked(buffer, &KEYS));
-    }
+    add_damaged(&mut blocks, &whole(), &HEADERS, &KEYS);
+    add_damaged(&mut blocks, &whole(), &NODES, &KEYS);
     blocks.extend(made().into_iter().map(|buffer| asked(buffer, &LETTERS)));
+    add_damaged(&mut blocks, &whole(), &SLOPPY, &KEYS);
+    add_damaged(&mut blocks, &full(), &SLOPPY_FULL, &FULL_KEYS);
+    let stores = sloppy_made().into_iter();
+    blocks.extend(stores.map(|buffer| asked(buffer, &LETTERS)));
     blocks
+}
+
+fn add_damaged(blocks: &mut Vec<Frame>, good: &[u8], damages: &[Damage], keys: &[&[u8]]) {
+    for damage in damages {
+        let mut buffer = good.to_vec();
+        damage(&mut buffer);
+        blocks.push(asked(buffer, keys));
+    }
 }
 
 /// Keys 10, 20, .. 140: the leaves 10..40, 60..90, 110..140 in slots 1, 2, 4,
@@ -146,10 +174,11 @@ const NODES: [Damage; 29] = [
     // A leaf with children, first and last.
     |b| number(b, node(MIDDLE), LEFT),
     |b| number(b, node(RIGHT) + 72, LEFT),
-    // Accepted: a value of 0 ends a node, a leaf and the root.
+    // Sloppy: a separator with value 0, in a leaf and in the root.
     |b| number(b, separator(MIDDLE, 1), 0),
     |b| number(b, separator(ROOT, 1), 0),
-    // A length below 255 behind 0xFF; bytes behind the end.
+    // Sloppy: a length below 255 behind 0xFF; twenty zeros behind the last
+    // child, which begin as a separator with value 0.
     |b| put_node(b, MIDDLE, &long_size()),
     |b| { length(b, MIDDLE, 100); },
     // Keys out of order: two leaves changed over; a key in its wrong leaf.
@@ -159,6 +188,89 @@ const NODES: [Damage; 29] = [
     |b| { b[16] = 200; b[start_of(FREE) + 4] = 77; },
     |b| { let end = b.len() - 1; b[end] = 1; b[start_of(RIGHT) + 2000] = 9; },
 ];
+
+/// Sloppy nodes with all entries in them, so that the original finds what it
+/// found before (D11): a leaf, then the root.
+#[rustfmt::skip]
+const SLOPPY: [Damage; 4] = [
+    |b| write_long_size(b, MIDDLE, 3),
+    |b| write_behind(b, MIDDLE, &ZERO_SEPARATOR),
+    |b| write_long_size(b, ROOT, 1),
+    |b| write_behind(b, ROOT, &ZERO_SEPARATOR),
+];
+
+/// The same where a leaf and the root have eight separators. The store without
+/// a flaw stands first.
+#[rustfmt::skip]
+const SLOPPY_FULL: [Damage; 15] = [
+    |_| (),
+    // A long size below 255: the last leaf, the root.
+    |b| write_long_size(b, LAST, 0),
+    |b| write_long_size(b, LAST, 7),
+    |b| write_long_size(b, ROOT, 0),
+    |b| write_long_size(b, ROOT, 7),
+    // A separator with value 0: a leaf and the root, first and last.
+    |b| number(b, separator(RIGHT, 0), 0),
+    |b| number(b, separator(LAST, 7), 0),
+    |b| number(b, separator(ROOT, 0), 0),
+    |b| number(b, separator(ROOT, 7), 0),
+    // Bytes after the end: one, or a whole separator and child.
+    |b| write_behind(b, LAST, &[0]),
+    |b| write_behind(b, LAST, &MORE),
+    |b| write_behind(b, ROOT, &[0]),
+    |b| write_behind(b, ROOT, &MORE),
+    // One flaw of each kind, each in a leaf of its own.
+    |b| {
+        write_long_size(b, LEFT, 0);
+        write_behind(b, RIGHT, &ZERO_SEPARATOR);
+        write_behind(b, LAST, &[9]);
+    },
+    // A sloppy node in a slot that isn't reached.
+    |b| put_node(b, UNREACHED, &long_size()),
+];
+
+/// A separator with value 0 and an empty key.
+const ZERO_SEPARATOR: [u8; 9] = [0; 9];
+
+/// A separator with value 1 and the key 250, and a child that is missing.
+const MORE: [u8; 18] = [1, 0, 0, 0, 0, 0, 0, 0, 1, 250, 0, 0, 0, 0, 0, 0, 0, 0];
+
+const LAST: u64 = 10;
+const UNREACHED: u64 = 11;
+
+/// Keys 5, 10, .. 240: leaves of four in slots 1, 2, 4, 5, .. 9 and one of
+/// eight in slot 10, a root of eight (25, 50, .. 200) in slot 3; 11 is free.
+fn full() -> Vec<u8> {
+    let mut store = Store::format(11);
+    let records: Vec<Change> = (1..=48u8)
+        .map(|n| Change::Set(vec![5 * n], n.into()))
+        .collect();
+    assert_eq!(store.batch(&records).number, 0);
+    let buffer = laid_out(&store.shape(), &store.free_chain());
+    let separators = |slot| (node_bytes(&buffer, slot).len() - 8) / 18;
+    assert_eq!([ROOT, RIGHT, LAST].map(separators), [8, 4, 8]);
+    buffer
+}
+
+fn node_bytes(buffer: &[u8], slot: u64) -> Vec<u8> {
+    let (length, bytes) = buffer[start_of(slot)..]
+        .split_first_chunk()
+        .expect("a slot is longer");
+    bytes[..u32::from_le_bytes(*length) as usize].to_vec()
+}
+
+/// Writes the length of separator i, a key of one byte, in four bytes.
+fn write_long_size(buffer: &mut [u8], slot: u64, i: usize) {
+    let mut bytes = node_bytes(buffer, slot);
+    let size = separator(slot, i) - node(slot) + 8;
+    bytes.splice(size..size + 1, [255, 1, 0, 0, 0]);
+    put_node(buffer, slot, &bytes);
+}
+
+fn write_behind(buffer: &mut [u8], slot: u64, behind: &[u8]) {
+    let bytes = node_bytes(buffer, slot);
+    put_node(buffer, slot, &[&bytes, behind].concat());
+}
 
 /// A leaf with this key and two others.
 fn long(key: &[u8]) -> Vec<u8> {
@@ -228,6 +340,40 @@ fn made() -> Vec<Vec<u8>> {
         stores.push(store(deep as u32, &nodes));
     }
     stores
+}
+
+/// Stores with one sloppy node: a root at depth 0, with each flaw; then a node
+/// between the root and the leaves, with each.
+fn sloppy_made() -> Vec<Vec<u8>> {
+    let flaws: [fn(&mut [u8], u64); 3] = [
+        |b, slot| write_long_size(b, slot, 7),
+        |b, slot| number(b, separator(slot, 7), 0),
+        |b, slot| write_behind(b, slot, &[0]),
+    ];
+    let letters: Vec<Pair> = (b'a'..=b'h').map(|c| pair(&[c], c.into())).collect();
+    let flat = store(0, &[(&[], &letters)]);
+    let mut stores = Vec::new();
+    for (good, slot) in [(flat, 1), (three_rows(&letters), 2)] {
+        for flaw in flaws {
+            let mut buffer = good.clone();
+            flaw(&mut buffer, slot);
+            stores.push(buffer);
+        }
+    }
+    stores
+}
+
+/// A root with `m`, a full node on its left, one with `x` on its right, and
+/// empty leaves.
+fn three_rows(full: &[Pair]) -> Vec<u8> {
+    let left: Vec<u64> = (4..=12).collect();
+    let mut nodes: Vec<(&[u64], &[Pair])> = vec![(&[], &[]); 14];
+    let m = [pair(b"m", 1)];
+    let x = [pair(b"x", 3)];
+    nodes[0] = (&[2, 3], &m);
+    nodes[1] = (&left, full);
+    nodes[2] = (&[13, 14], &x);
+    store(2, &nodes)
 }
 
 /// What is asked of every one, in the same order.

@@ -1,11 +1,13 @@
-//! Node readings: bytes, and the answer in 01's numbers.
+//! Node readings: bytes, and the answers in 01's numbers, of the lenient and
+//! of the strict reading.
 
 use super::frame::{self, Frame};
 use super::List;
-use crate::model::codec::Reading;
+use crate::model::codec::{Reading, MOST_SEPARATORS};
 use crate::nodes::{add_long_separator, any_node, bytes_of, damaged, node, Damage, Lengths, EDGES};
 use crate::random::Random;
-use crate::readings::answer;
+use crate::readings::{answer, strict_answer};
+use crate::sloppy::{add_behind, flawed, Flaw};
 use original::btree::glue::NodeParts;
 
 /// The seed of the stored list.
@@ -13,6 +15,9 @@ pub const SEED: u64 = 0x5EED_00A1;
 
 /// No block is longer.
 const LIMIT: usize = 4096;
+
+/// No input is longer: "The largest node is [...] 2,480 bytes."
+const LONGEST_INPUT: usize = 2480;
 
 pub fn list() -> List {
     let mut inputs = Vec::new();
@@ -23,12 +28,14 @@ pub fn list() -> List {
     let mut random = Random::new(SEED);
     add_random(&mut inputs, &mut random);
     add_too_long(&mut inputs, &mut random);
+    add_sloppy(&mut inputs, &mut random);
     let blocks = frame::distinct(inputs.iter().map(|input| case(input)).collect());
     frame::list("node_readings.bin", &blocks, blocks.len(), LIMIT)
 }
 
 fn case(input: &[u8]) -> Frame {
     let mut frame = Frame::default();
+    assert!(input.len() <= LONGEST_INPUT);
     frame.part(input);
     match answer(input) {
         Err(number) => frame.byte(number.into()),
@@ -37,6 +44,12 @@ fn case(input: &[u8]) -> Frame {
             add_node(&mut frame, &node);
         }
     }
+    let (number, place) = match strict_answer(input) {
+        Err(refused) => (refused.number, refused.place),
+        Ok(_) => (0, input.len()),
+    };
+    frame.byte(number.into());
+    frame.short(place);
     frame
 }
 
@@ -184,12 +197,96 @@ fn add_too_long(inputs: &mut Vec<Vec<u8>>, random: &mut Random) {
     }
 }
 
-/// "The largest node is [...] 2,480 bytes."
+/// The largest node.
 fn largest(random: &mut Random) -> Vec<u8> {
     let bytes = bytes_of(&NodeParts {
         children: std::array::from_fn(|_| random.any()),
         separators: (0..8).map(|at| (random.bytes(288), at + 1)).collect(),
     });
-    assert_eq!(bytes.len(), 2480);
+    assert_eq!(bytes.len(), LONGEST_INPUT);
     bytes
+}
+
+/// What the strict reading adds, in each of the separators: each flaw alone,
+/// with another cause in the same separator or further behind, and with bytes
+/// behind the end. Then full nodes with nothing but bytes behind.
+fn add_sloppy(inputs: &mut Vec<Vec<u8>>, random: &mut Random) {
+    for at in 0..MOST_SEPARATORS {
+        for flaw in Flaw::ALL {
+            add_flaw(inputs, at, flaw, random);
+            add_two_flaws(inputs, at, flaw, random);
+        }
+    }
+    for _ in 0..300 {
+        inputs.push(full_with_more(&[], random));
+    }
+}
+
+fn add_flaw(inputs: &mut Vec<Vec<u8>>, at: usize, flaw: Flaw, random: &mut Random) {
+    let flaws = [(at, flaw)];
+    for _ in 0..8 {
+        let count = random.between(at + 1, MOST_SEPARATORS);
+        inputs.push(flawed(count, &flaws, random));
+    }
+    for _ in 0..3 {
+        inputs.push(cut_within(at, flaw, random));
+    }
+    add_cut_behind(inputs, at, flaw, random);
+    for _ in 0..2 {
+        inputs.push(full_with_more(&flaws, random));
+    }
+}
+
+/// Cut in the flawed separator itself, more often before its last byte.
+fn cut_within(at: usize, flaw: Flaw, random: &mut Random) -> Vec<u8> {
+    let mut input = flawed(at, &[], random);
+    let start = input.len();
+    flaw.add(&mut input, random);
+    let last = input.len() - 1;
+    let any = random.between(start + 1, last);
+    input.truncate(*random.pick(&[last, any]));
+    input
+}
+
+/// Cut further behind, one byte short of a head, of a long size, of a key, of
+/// a child; behind the eighth separator only a child can be cut.
+fn add_cut_behind(inputs: &mut Vec<Vec<u8>>, at: usize, flaw: Flaw, random: &mut Random) {
+    let flaws = [(at, flaw)];
+    let value = [1; 8];
+    let cuts: [&[u8]; 4] = [
+        &[],
+        &[0xFF, 0, 0, 0],
+        &[5, 1, 2, 3, 4],
+        &[0, 0, 0, 0, 0, 0, 0, 0],
+    ];
+    for cut in cuts {
+        if at + 1 == MOST_SEPARATORS {
+            let mut input = flawed(MOST_SEPARATORS, &flaws, random);
+            input.pop();
+            inputs.push(input);
+        } else {
+            let count = random.between(at + 1, MOST_SEPARATORS - 1);
+            let front = flawed(count, &flaws, random);
+            inputs.push([&front, &value[..], cut].concat());
+        }
+    }
+}
+
+/// Every second flaw further behind.
+fn add_two_flaws(inputs: &mut Vec<Vec<u8>>, at: usize, flaw: Flaw, random: &mut Random) {
+    if at + 1 == MOST_SEPARATORS {
+        return;
+    }
+    for second in Flaw::ALL {
+        let behind = random.between(at + 1, MOST_SEPARATORS - 1);
+        let count = random.between(behind + 1, MOST_SEPARATORS);
+        let flaws = [(at, flaw), (behind, second)];
+        inputs.push(flawed(count, &flaws, random));
+    }
+}
+
+fn full_with_more(flaws: &[(usize, Flaw)], random: &mut Random) -> Vec<u8> {
+    let mut input = flawed(MOST_SEPARATORS, flaws, random);
+    add_behind(&mut input, random);
+    input
 }

@@ -93,14 +93,15 @@ pub enum From<'a> {
 impl Bytes {
     /// "A node read must have a slot number 1 to count, a length of 8 to 2,480,
     /// readable bytes and children that fit its depth (none at 0; separators
-    /// plus one above); else 8."
+    /// plus one above); else 8." Readable is what the strict reading accepts:
+    /// "The audit and the walks change to the strict one" (C-16).
     fn read(&self, slot: u64, depth: u32) -> Result<Read<'_>, u8> {
         let bytes = self.nodes.get(&slot).filter(|_| slot <= self.count);
         let bytes = bytes.ok_or(BAD)?;
         if !(SHORTEST_NODE..=LONGEST_NODE).contains(&bytes.len()) {
             return Err(BAD);
         }
-        let node = codec::read(bytes).map_err(|_| BAD)?;
+        let node = codec::read_strict(bytes).map_err(|_| BAD)?;
         let fits = node
             .children
             .iter()

@@ -17,8 +17,15 @@ pub const SIZE_CUT: u8 = 13;
 pub const KEY_CUT: u8 = 14;
 pub const TOO_MANY: u8 = 16;
 
-/// The length byte behind which a u32 length follows.
+/// Numbers that the strict reading adds: "a long size below 255, a separator
+/// with value 0, and bytes after the end of the node".
+pub const LONG_SIZE_SMALL: u8 = 18;
+pub const SEPARATOR_ZERO: u8 = 19;
+pub const BYTES_BEHIND: u8 = 20;
+
+/// The length byte behind which a u32 length follows: "from 255 on".
 const LONG: u8 = 0xFF;
+const SHORTEST_LONG: usize = 255;
 
 /// A separator that was read: its key as a part of the bytes.
 #[derive(Clone, Debug, PartialEq, Eq)]
@@ -42,6 +49,15 @@ pub struct Refused {
     pub at: usize,
     /// What was read before.
     pub before: Reading,
+}
+
+/// A strict reading that ends in a refusal. It gives no node.
+#[derive(Clone, Debug, PartialEq, Eq)]
+pub struct StrictRefused {
+    pub number: u8,
+    /// Where the refused child or separator begins; for 20 the first byte
+    /// behind the ninth child.
+    pub place: usize,
 }
 
 struct Reader<'a> {
@@ -99,7 +115,7 @@ impl<'a> Reader<'a> {
     }
 }
 
-/// Reads a node.
+/// Reads a node: "The lenient reading stays, being the Rust's" (C-16).
 pub fn read(bytes: &[u8]) -> Result<Reading, Refused> {
     let mut reader = Reader { bytes, at: 0 };
     let mut node = Reading::default();
@@ -111,6 +127,65 @@ pub fn read(bytes: &[u8]) -> Result<Reading, Refused> {
             before: node,
         }),
     }
+}
+
+/// Reads a node strictly, from the front, separator by separator: "two byte
+/// strings read as the same node only if they are the same bytes". It ends only
+/// where no byte is left behind a child, so the place of an accepted reading is
+/// the number of bytes.
+pub fn read_strict(bytes: &[u8]) -> Result<Reading, StrictRefused> {
+    let refused = |place| move |number| StrictRefused { number, place };
+    let mut node = Reading::default();
+    let mut place = 0;
+    loop {
+        let child = strict_child(&bytes[place..]).map_err(refused(place))?;
+        node.children.push(child);
+        place += 8;
+        if place == bytes.len() {
+            return Ok(node);
+        }
+        if node.children.len() == MOST_CHILDREN {
+            return Err(refused(place)(BYTES_BEHIND));
+        }
+        let separator = strict_separator(&bytes[place..]);
+        let (value, key) = separator.map_err(refused(place))?;
+        let key = place + key.start..place + key.end;
+        place = key.end;
+        node.separators.push(Separator { value, key });
+    }
+}
+
+fn strict_child(rest: &[u8]) -> Result<u64, u8> {
+    let child = rest.first_chunk().ok_or(CHILD_CUT)?;
+    Ok(u64::from_le_bytes(*child))
+}
+
+/// A separator's value, and where its key stands behind its first byte. "Name
+/// the order after 11 to 14": 12, 13, 14, then 18, 19, 4.
+fn strict_separator(rest: &[u8]) -> Result<(u64, Range<usize>), u8> {
+    let head = rest.first_chunk::<9>().ok_or(HEAD_CUT)?;
+    let [value @ .., size] = *head;
+    let value = u64::from_le_bytes(value);
+    let is_long = size == LONG;
+    let key = if is_long {
+        let length = rest[9..].first_chunk().ok_or(SIZE_CUT)?;
+        13..13 + u32::from_le_bytes(*length) as usize
+    } else {
+        9..9 + usize::from(size)
+    };
+    if rest.len() < key.end {
+        return Err(KEY_CUT);
+    }
+    if is_long && key.len() < SHORTEST_LONG {
+        return Err(LONG_SIZE_SMALL);
+    }
+    if value == 0 {
+        return Err(SEPARATOR_ZERO);
+    }
+    if key.len() > LONGEST_KEY {
+        return Err(KEY_TOO_LONG);
+    }
+    Ok((value, key))
 }
 
 /// Writes a node in standard form. Children that aren't given are 0; those

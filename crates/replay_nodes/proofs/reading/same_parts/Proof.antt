@@ -5,10 +5,10 @@ use Rattle.replay_nodes.proofs.reading.same_parts.Statement.{statement}
 use Rattle.replay_nodes.proofs.reading.same_parts.Tie as tie
 
 abbrev Inv-loop : tie.InvT-loop
-Inv-loop bytes told i₀ i = Unit {0}
+Inv-loop bytes told rule i₀ i = Unit {0}
 
 abbrev μ-loop : tie.MeasureT-loop
-μ-loop bytes told i₀ i = 9 - i
+μ-loop bytes told rule i₀ i = 9 - i
 
 pub same-parts-spec : {M : Type 1} → statement M
 same-parts-spec =
@@ -18,7 +18,7 @@ same-parts-spec =
     μ-loop
     (λ c. tt)  -- loop-holds
     (λ c κs. search needs)  -- key-requires
-    (λ c κs. search needs)  -- key-requires-2
+    (λ c κs. search needs)  -- key-found-requires
     (λ c. search needs)  -- sub-same
     (λ c. search needs)  -- part-same-start
     (λ c. search needs)  -- part-same-end

@@ -5,7 +5,7 @@ use Rattle.word.proofs.AtLaws.{fitted}
 use Rattle.search.specs.declared.Sight.{Sight}
 use Rattle.search.specs.Search.{GoesOn}
 use Rattle.codec.proofs.ScanLaws.{head-within}
-use Rattle.search.proofs.SearchCode.{on-short, on-misfit, on-whole, on-end, on-spot, on-last}
+use Rattle.search.proofs.SearchCode.{on-short, on-misfit, on-whole, on-end, on-low, on-spot, on-last}
 use native.Mathlib.Omega.{arith}
 use borrow.Author.Needs.{needs}
 use Rattle.search.proofs.Sight.go_on.Statement.{statement}
@@ -35,13 +35,15 @@ go-on-spec =
     (λ c. c .before .before .before .before .before .before .before .before .loop .inv _ (on-whole _ _ _ _ (c .before .before .before .before .before .before .if1 .taken) (c .before .before .before .before .before .fits2 .ensures) (c .before .before .before .before .if2 .left) (c .before .before .before .read-u64 .ensures) (c .before .before .is-misfit .ensures) (c .before .if3 .left) (c .if4 .taken)))  -- returns-3
     (λ c κs. search needs)  -- read-separator-requires
     (λ c. search needs)  -- enum-known-head
-    (λ c κs. search needs)  -- end-in-requires
-    (λ c. c .before .before .before .before .before .before .before .before .before .before .before .before .before .loop .inv _ (on-end _ _ _ _ (c .before .before .before .before .before .before .before .before .before .before .before .if1 .taken) (c .before .before .before .before .before .before .before .before .before .before .fits2 .ensures) (c .before .before .before .before .before .before .before .before .before .if2 .left) (c .before .before .before .before .before .before .before .before .read-u64 .ensures) (c .before .before .before .before .before .before .before .is-misfit .ensures) (c .before .before .before .before .before .before .if3 .left) (c .before .before .before .before .before .if4 .left) (c .before .before .before .before .read-separator .ensures) (c .before .before .head .given .1) (c .end-in .ensures)))  -- returns-4
+    (λ c κs. search needs)  -- spoilt-requires-3
+    (λ c. c .before .before .before .before .before .before .before .before .before .before .before .before .before .loop .inv _ (on-end _ _ _ _ (c .before .before .before .before .before .before .before .before .before .before .before .if1 .taken) (c .before .before .before .before .before .before .before .before .before .before .fits2 .ensures) (c .before .before .before .before .before .before .before .before .before .if2 .left) (c .before .before .before .before .before .before .before .before .read-u64 .ensures) (c .before .before .before .before .before .before .before .is-misfit .ensures) (c .before .before .before .before .before .before .if3 .left) (c .before .before .before .before .before .if4 .left) (c .before .before .before .before .read-separator .ensures) (c .before .before .head .given .1) (c .spoilt3 .ensures)))  -- returns-4
     (λ c. search needs)  -- enum-known-head-2
-    (λ c. omega (arith, head-within _ _ (c .before .before .before .read-separator .ensures) (c .before .head2 .given .1), c .before .before .before .before .before .before .before .before .before .before .before .before .before .before .good .1 .0))  -- add-at-2
-    (λ c. omega (arith, c .before .before .before .before .before .before .before .before .before .before .before .if1 .taken))  -- add-sight
-    (λ c. omega (arith, c .before .before .before .before .before .before .before .before .before .before .before .if1 .taken))  -- loop-less
-    (λ c. λ r q. c .before .before .before .before .before .before .before .before .before .before .before .before .before .loop .inv r (on-spot _ _ _ _ (c .before .before .before .before .before .before .before .before .before .before .before .if1 .taken) (c .before .before .before .before .before .before .before .before .before .before .fits2 .ensures) (c .before .before .before .before .before .before .before .before .before .if2 .left) (c .before .before .before .before .before .before .before .before .read-u64 .ensures) (c .before .before .before .before .before .before .before .is-misfit .ensures) (c .before .before .before .before .before .before .if3 .left) (c .before .before .before .before .before .if4 .left) (c .before .before .before .before .read-separator .ensures) r (c .before .before .head2 .given .1) q))  -- loop-again
+    (λ c κs. search needs)  -- spoilt-requires-4
+    (λ c. c .before .before .before .before .before .before .before .before .before .before .before .before .before .before .loop .inv _ (on-low _ _ _ _ (c .before .before .before .before .before .before .before .before .before .before .before .before .if1 .taken) (c .before .before .before .before .before .before .before .before .before .before .before .fits2 .ensures) (c .before .before .before .before .before .before .before .before .before .before .if2 .left) (c .before .before .before .before .before .before .before .before .before .read-u64 .ensures) (c .before .before .before .before .before .before .before .before .is-misfit .ensures) (c .before .before .before .before .before .before .before .if3 .left) (c .before .before .before .before .before .before .if4 .left) (c .before .before .before .before .before .read-separator .ensures) (c .before .before .before .head2 .given .1) (c .before .if5 .taken) (c .spoilt4 .ensures)))  -- returns-5
+    (λ c. omega (arith, head-within _ _ (c .before .before .before .before .read-separator .ensures) (c .before .before .head2 .given .1), c .before .before .before .before .before .before .before .before .before .before .before .before .before .before .before .good .1 .0))  -- add-at-2
+    (λ c. omega (arith, c .before .before .before .before .before .before .before .before .before .before .before .before .if1 .taken))  -- add-sight
+    (λ c. omega (arith, c .before .before .before .before .before .before .before .before .before .before .before .before .if1 .taken))  -- loop-less
+    (λ c. λ r q. c .before .before .before .before .before .before .before .before .before .before .before .before .before .before .loop .inv r (on-spot _ _ _ _ (c .before .before .before .before .before .before .before .before .before .before .before .before .if1 .taken) (c .before .before .before .before .before .before .before .before .before .before .before .fits2 .ensures) (c .before .before .before .before .before .before .before .before .before .before .if2 .left) (c .before .before .before .before .before .before .before .before .before .read-u64 .ensures) (c .before .before .before .before .before .before .before .before .is-misfit .ensures) (c .before .before .before .before .before .before .before .if3 .left) (c .before .before .before .before .before .before .if4 .left) (c .before .before .before .before .before .read-separator .ensures) r (c .before .before .before .head2 .given .1) (c .before .if5 .left) q))  -- loop-again
     (λ c κs. search needs)  -- end-last-requires
-    (λ c. c .before .before .before .loop .inv _ (on-last _ _ _ _ (c .before .if1 .left) (c .end-last .ensures)))  -- returns-5
+    (λ c. c .before .before .before .loop .inv _ (on-last _ _ _ _ (c .before .if1 .left) (c .end-last .ensures)))  -- returns-6
     )
