@@ -9,4 +9,6 @@ pub mod report;
 pub mod rows;
 pub mod sides;
 pub mod twin;
+#[cfg(feature = "versus")]
+pub mod versus;
 pub mod work;

@@ -1,24 +1,17 @@
 //! `compare ROUNDS SVG [TABLE]` writes a plot and a table.
 
 use compare::rows::{Bench, Row};
-use compare::work::{behind_prefix, load, number_first, questions, Batch, BATCH, LOADED, LOOKUPS};
+use compare::work::{behind_all, behind_prefix, load, number_first, over_all, questions, Batch};
+use compare::work::{LOADED, LOADING_BATCHES, LOOKUPS, SLOTS};
 use compare::{audits, growth, nodes, report, sides};
 use std::num::NonZeroUsize;
-
-const SLOTS: u32 = 15_000;
-const LOADING_BATCHES: u64 = 5;
-
-/// Every fifth key of the loaded ones, or one beside it.
-fn over_all(plus: u64) -> impl Iterator<Item = u64> {
-    (0..BATCH).map(move |i| 10 * LOADED / BATCH * i + plus)
-}
 
 /// The rows with keys that share 16 bytes.
 fn shared_prefix(rounds: usize) -> (Vec<Row>, audits::Audit) {
     let key = behind_prefix;
     let loaded = load(key, LOADED, LOADING_BATCHES);
     let mut bench = Bench { sides: sides::all(SLOTS), rounds };
-    let mut rows = vec![bench.load("load", &loaded)];
+    let mut rows = vec![bench.load(report::LOAD, &loaded)];
     bench.restore(&loaded);
     rows.push(bench.lookups(report::LOOKUP, &questions(key, LOADED, LOOKUPS)));
     rows.push(bench.scan(report::STEP, LOADED as usize));
@@ -26,10 +19,9 @@ fn shared_prefix(rounds: usize) -> (Vec<Row>, audits::Audit) {
     rows.push(nodes::writing(bench.store(), rounds));
     let audit = audits::measure("the loaded store", bench.store(), rounds);
     rows.push(bench.batch(report::BATCH, &loaded, &Batch::sets(key, 1, over_all(5))));
-    let behind_all = (0..BATCH).map(|i| 10 * (LOADED + i));
-    rows.push(bench.batch("batch, behind all keys", &loaded, &Batch::sets(key, 1, behind_all)));
-    rows.push(bench.batch("batch, of present keys", &loaded, &Batch::sets(key, 7, over_all(0))));
-    rows.push(bench.batch("removals", &loaded, &Batch::dereferences(key, over_all(0))));
+    rows.push(bench.batch(report::BEHIND_ALL, &loaded, &Batch::sets(key, 1, behind_all())));
+    rows.push(bench.batch(report::PRESENT, &loaded, &Batch::sets(key, 7, over_all(0))));
+    rows.push(bench.batch(report::REMOVALS, &loaded, &Batch::dereferences(key, over_all(0))));
     (rows, audit)
 }
 

@@ -1,11 +1,12 @@
 //! Node reading and writing, by the sides that have nodes: the nodes of a loaded store, without the store around them.
 
 use crate::clock::timed;
-use crate::rows::Row;
+use crate::report;
+use crate::rows::{in_turn, Row};
 use crate::sides::proved::{self, Proved};
 use crate::sides::slots::Face;
 use crate::sides::twin::Twin;
-use crate::sides::{PROVED, TWIN};
+use crate::sides::{ORIGINAL, PROVED, TWIN};
 use crate::twin::codec::{self, Node};
 use crate::twin::layout::{node_in, u32_at, HEADER, SLOT};
 use std::hint::black_box;
@@ -15,9 +16,14 @@ const NODES: usize = 1_000;
 const PASSES: usize = 10;
 
 /// The bytes of nodes that a store holds.
-fn nodes(store: &[u8]) -> Vec<&[u8]> {
+pub fn of_store(store: &[u8]) -> Vec<&[u8]> {
     let used = store[HEADER..].chunks_exact(SLOT).filter(|slot| u32_at(slot, 0) != 0);
     used.take(NODES).map(|slot| node_in(slot).expect("a good slot")).collect()
+}
+
+/// The same nodes in memory.
+pub fn in_memory(nodes: &[&[u8]]) -> Vec<Node> {
+    nodes.iter().map(|node| Node::of(&codec::read(node).expect("a good node"))).collect()
 }
 
 /// Time for each node of several passes over all of them.
@@ -26,52 +32,47 @@ fn each<T>(nodes: &[T], mut work: impl FnMut(&T)) -> f64 {
     timed(all).1 / (PASSES * nodes.len()) as f64
 }
 
-/// The three sides, another one first in each round.
-fn turns(rounds: usize) -> impl Iterator<Item = usize> {
-    (0..rounds).flat_map(|round| round..round + 3).map(|turn| turn % 3)
-}
-
 pub fn reading(store: &[u8], rounds: usize) -> Row {
-    let nodes = nodes(store);
-    assert!(nodes.iter().all(|node| Proved::read_node(node) == Twin::read_node(node)));
-    let mut row = Row::new("node reading");
-    for turn in turns(rounds) {
-        match turn {
-            0 => row.offer(PROVED, each(&nodes, |node| _ = black_box(Proved::read_node(node)))),
-            1 => row.offer(TWIN, each(&nodes, |node| _ = black_box(Twin::read_node(node)))),
-            _ => original::read(&nodes, &mut row),
-        }
-    }
+    let nodes = of_store(store);
+    let mut row = Row::new(report::READING);
+    in_turn(&mut [PROVED, TWIN, ORIGINAL], 0..rounds, |side| match *side {
+        PROVED => row.offer(PROVED, read_by::<Proved>(&nodes)),
+        TWIN => row.offer(TWIN, read_by::<Twin>(&nodes)),
+        _ => original::read(&nodes, &mut row),
+    });
     row
 }
 
+/// Every node has to have as many separators as the twin finds.
+pub fn read_by<F: Face>(nodes: &[&[u8]]) -> f64 {
+    assert!(nodes.iter().all(|node| F::read_node(node) == Twin::read_node(node)), "other separators are read");
+    each(nodes, |node| _ = black_box(F::read_node(node)))
+}
+
 pub fn writing(store: &[u8], rounds: usize) -> Row {
-    let bytes = nodes(store);
-    let nodes: Vec<Node> = bytes.iter().map(|node| Node::of(&codec::read(node).expect("a good node"))).collect();
+    let bytes = of_store(store);
+    let nodes = in_memory(&bytes);
     let lent: Vec<_> = nodes.iter().map(proved::lent).collect();
-    let mut row = Row::new("node writing");
-    for turn in turns(rounds) {
-        match turn {
-            0 => write_by(proved::write_node, PROVED, &lent, &bytes, &mut row),
-            1 => write_by(|node, dst| node.write(dst).expect("no refusal"), TWIN, &nodes, &bytes, &mut row),
-            _ => original::write(&bytes, &mut row),
-        }
-    }
+    let mut row = Row::new(report::WRITING);
+    in_turn(&mut [PROVED, TWIN, ORIGINAL], 0..rounds, |side| match *side {
+        PROVED => row.offer(PROVED, write_by(Proved::write_node, &lent, &bytes)),
+        TWIN => row.offer(TWIN, write_by(|node: &Node, dst| node.write(dst).expect("no refusal"), &nodes, &bytes)),
+        _ => original::write(&bytes, &mut row),
+    });
     row
 }
 
 /// Every node, written, has to give the bytes that it was read from.
-fn write_by<N>(write: impl Fn(&N, &mut [u8]) -> usize, side: &str, nodes: &[N], bytes: &[&[u8]], row: &mut Row) {
+pub fn write_by<N>(write: impl Fn(&N, &mut [u8]) -> usize, nodes: &[N], bytes: &[&[u8]]) -> f64 {
     let mut dst = [0; SLOT];
     for (node, bytes) in nodes.iter().zip(bytes) {
         let size = write(node, &mut dst);
-        assert!(dst[..size] == **bytes, "{side} writes other bytes");
+        assert!(dst[..size] == **bytes, "other bytes are written");
     }
-    let time = each(nodes, |node| {
+    each(nodes, |node| {
         black_box(write(node, &mut dst));
         black_box(&dst);
-    });
-    row.offer(side, time);
+    })
 }
 
 #[cfg(feature = "original")]

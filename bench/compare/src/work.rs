@@ -1,13 +1,17 @@
 //! The work: keys, batches and questions, all made before any time is taken.
 
 use audit_bench::random::Random;
+use cikolaro::LONGEST_KEY;
 
+pub const SLOTS: u32 = 15_000;
 pub const LOADED: u64 = 50_000;
+pub const LOADING_BATCHES: u64 = 5;
 pub const BATCH: u64 = 10_000;
 pub const LOOKUPS: usize = 200_000;
 
 pub type Key = [u8; 24];
-pub type KeyOf = fn(u64) -> Key;
+pub type LongKey = [u8; LONGEST_KEY];
+pub type KeyOf<K = Key> = fn(u64) -> K;
 
 /// 16 bytes that all keys share, and then a number whose order is the bytes' order.
 pub fn behind_prefix(number: u64) -> Key {
@@ -23,16 +27,33 @@ pub fn number_first(number: u64) -> Key {
     key
 }
 
+/// As long as a key can be, and 250 bytes of it shared. The number is shifted, so that no more are.
+pub fn long_behind_prefix(number: u64) -> LongKey {
+    let mut key = [b'k'; LONGEST_KEY];
+    key[250..258].copy_from_slice(&(number << 40).to_be_bytes());
+    key
+}
+
+/// Every fifth key of the loaded ones, or one beside it.
+pub fn over_all(plus: u64) -> impl Iterator<Item = u64> {
+    (0..BATCH).map(move |i| 10 * LOADED / BATCH * i + plus)
+}
+
+pub fn behind_all() -> impl Iterator<Item = u64> {
+    (0..BATCH).map(|i| 10 * (LOADED + i))
+}
+
 /// Sets (with a value) and dereferences of rising keys, and the same as 01's records.
-pub struct Batch {
-    pub changes: Vec<(Key, Option<u64>)>,
+pub struct Batch<K = Key> {
+    pub changes: Vec<(K, Option<u64>)>,
     pub records: Vec<u8>,
 }
 
-impl Batch {
-    fn new(changes: Vec<(Key, Option<u64>)>) -> Batch {
-        let mut records = Vec::with_capacity(changes.len() * 35);
+impl<K: AsRef<[u8]>> Batch<K> {
+    fn new(changes: Vec<(K, Option<u64>)>) -> Self {
+        let mut records = Vec::new();
         for (key, value) in &changes {
+            let key = key.as_ref();
             records.push(if value.is_some() { 1 } else { 2 });
             records.extend((key.len() as u16).to_le_bytes());
             records.extend(value.unwrap_or(0).to_le_bytes());
@@ -42,17 +63,17 @@ impl Batch {
     }
 
     /// Sets; the value is the number, and `plus` tells new values from old ones.
-    pub fn sets(key: KeyOf, plus: u64, numbers: impl Iterator<Item = u64>) -> Batch {
+    pub fn sets(key: KeyOf<K>, plus: u64, numbers: impl Iterator<Item = u64>) -> Self {
         Batch::new(numbers.map(|number| (key(number), Some(number + plus))).collect())
     }
 
-    pub fn dereferences(key: KeyOf, numbers: impl Iterator<Item = u64>) -> Batch {
+    pub fn dereferences(key: KeyOf<K>, numbers: impl Iterator<Item = u64>) -> Self {
         Batch::new(numbers.map(|number| (key(number), None)).collect())
     }
 }
 
 /// Keys with the numbers 0, 10, 20 and so on, in batches that each go over the whole range: so nodes fill as by keys in no order.
-pub fn load(key: KeyOf, keys: u64, batches: u64) -> Vec<Batch> {
+pub fn load<K: AsRef<[u8]>>(key: KeyOf<K>, keys: u64, batches: u64) -> Vec<Batch<K>> {
     let mut parts: Vec<u64> = (0..batches).collect();
     shuffle(&mut parts, &mut Random(5));
     let numbers = |part| (0..keys).filter(move |i| i % batches == part).map(|i| 10 * i);

@@ -24,7 +24,7 @@ use Rattle.node.specs.Chain.{padded, valueOf, childOf}
 use Rattle.codec.specs.Layout.{layout, placesOf, readingOf, allPlain}
 use Rattle.codec.proofs.ScanLaws.{refused-not-whole, AllLie, scan-lies, scan-sound}
 use Rattle.node.proofs.ChainLaws.{getD-padded, getD-mapped, length-padded}
-use Rattle.codec.proofs.ReadLaws.{places-few, ends-within}
+use Rattle.codec.proofs.ReadLaws.{ends-within}
 use Rattle.codec.proofs.Theorems.{standard-flagged}
 use Rattle.slots.specs.Limits.{leastNode, mostNode, slotSize}
 use Rattle.slots.specs.Layout.{start, slotAt, used}
@@ -71,29 +71,26 @@ module _ (s : List ℕ) (from n : ℕ) (b : List ℕ) (here : b ≡ part s from 
 
 -- ---- the sizes of places
 
+module _ (b : List ℕ) where
+  few : length (scan b .rest) ≤ 8
+  few = scan-lies b .most
+
+  pub starts-eight : length (placesOf b .starts) ≡ 8
+  unfolding placesOf layout
+  starts-eight = length-padded 8 0 (map (λ (y : Spot × ℕ). y .0 .start) (scan b .rest)) (omega (arith, few, length-map (scan b .rest) (λ (y : Spot × ℕ). y .0 .start)))
+
+  pub lens-eight : length (placesOf b .lens) ≡ 8
+  unfolding placesOf layout
+  lens-eight = length-padded 8 0 (map (λ (y : Spot × ℕ). y .0 .len) (scan b .rest)) (omega (arith, few, length-map (scan b .rest) (λ (y : Spot × ℕ). y .0 .len)))
+
+  pub children-nine : length (placesOf b .children) ≡ 9
+  unfolding placesOf layout
+  children-nine = length-padded 9 (childOf 0) (childOf (scan b .first) ∷ map (λ (y : Spot × ℕ). childOf (y .1)) (scan b .rest)) (omega (arith, few, length-map (scan b .rest) (λ (y : Spot × ℕ). childOf (y .1))))
+
 module _ (s : List ℕ) (x : ℕ) where
   pub count-is : placesIn s x .count ≡ length (restIn s x)
   unfolding placesIn placesOf layout
   count-is = sym (length-map (scan (bytesIn s x) .rest) (stepOf (bytesIn s x)))
-
-  pub count-few : placesIn s x .count ≤ 8
-  unfolding placesIn
-  count-few = places-few (bytesIn s x)
-
-  few : length (scan (bytesIn s x) .rest) ≤ 8
-  few = scan-lies (bytesIn s x) .most
-
-  pub starts-eight : length (placesIn s x .starts) ≡ 8
-  unfolding placesIn placesOf layout
-  starts-eight = length-padded 8 0 (map (λ (y : Spot × ℕ). y .0 .start) (scan (bytesIn s x) .rest)) (omega (arith, few, length-map (scan (bytesIn s x) .rest) (λ (y : Spot × ℕ). y .0 .start)))
-
-  pub lens-eight : length (placesIn s x .lens) ≡ 8
-  unfolding placesIn placesOf layout
-  lens-eight = length-padded 8 0 (map (λ (y : Spot × ℕ). y .0 .len) (scan (bytesIn s x) .rest)) (omega (arith, few, length-map (scan (bytesIn s x) .rest) (λ (y : Spot × ℕ). y .0 .len)))
-
-  pub children-nine : length (placesIn s x .children) ≡ 9
-  unfolding placesIn placesOf layout
-  children-nine = length-padded 9 (childOf 0) (childOf (scan (bytesIn s x) .first) ∷ map (λ (y : Spot × ℕ). childOf (y .1)) (scan (bytesIn s x) .rest)) (omega (arith, few, length-map (scan (bytesIn s x) .rest) (λ (y : Spot × ℕ). childOf (y .1))))
 
   pub first-is : getD (placesIn s x .children) 0 (childOf 0) .0 ≡ firstIn s x
   unfolding placesIn placesOf layout padded

@@ -17,13 +17,16 @@ use Rattle.tree.proofs.Cases.{by-bool}
 use Rattle.codec.specs.declared.Places.{Places}
 use Rattle.node.specs.Chain.{Step, childOf}
 use Rattle.slots.specs.Layout.{start, countOf}
-use Rattle.slots.specs.Code.{slotOf, placesIn, firstIn, restIn, nodeIn}
+use Rattle.slots.specs.Code.{slotOf, rawIn, placesIn, firstIn, restIn, nodeIn}
 use Rattle.audit.specs.declared.Last.{Last}
 use Rattle.audit.specs.declared.Seen as struct
 use Rattle.audit.specs.Marks.{wordsFor}
 use Rattle.audit.specs.Walk.{inWords, isClear, marked, Seen, isAbove, bind, readWritten, visitRest, visitNode, visit}
 use Rattle.audit.specs.Code.{hasZeros, enters, isRising, keyOf, seenOf, visitIn, restFrom}
-use Rattle.audit.proofs.ReadCode.{no-way, count-is, count-few, starts-eight, lens-eight, children-nine, first-is, read-loose, standard-slot, read-written, read-soiled, steps-are, key-fits}
+use Rattle.codec.specs.Layout.{placesOf}
+use Rattle.codec.proofs.ReadLaws.{places-few}
+use Rattle.slots.proofs.CodeLaws.{same-flag, same-places}
+use Rattle.audit.proofs.ReadCode.{no-way, count-is, starts-eight, lens-eight, children-nine, first-is, read-loose, standard-slot, read-written, read-soiled, steps-are, key-fits}
 
 abbrev SeenWords : Type 0
 SeenWords = Seen (List ℕ)
@@ -113,11 +116,16 @@ module _ (s : List ℕ) (bs : Bytes s) (h least x : ℕ) (w : SeenWords) (there 
       go false q = sym (pickF _ _ q)
 
   -- what the code knows when it has tried to walk into the node: its slot, its places, and the answer of `enter`
-  module _ {y : ℕ} {p : Places} {r : Bool} {vs : List ℕ} (slot : y ≡ slotOf s x) (places : p ≡ placesIn s x)
+  module _ {y : ℕ} {p : Places} {r : Bool} {vs : List ℕ} (slot : y ≡ slotOf s x) (places : p ≡ placesOf (rawIn s x))
       (tried : (r ≡ enters s y (p .standard) (p .count) least (w .marks)) × (vs ≡ pick (enters s y (p .standard) (p .count) least (w .marks)) (marked (w .marks) y) (w .marks)))
     where
       answer : r ≡ may
-      answer = tried .0 ∙ ap (λ (z : ℕ). enters s z (p .standard) (p .count) least (w .marks)) slot ∙ ap (λ (q : Places). enters s (slotOf s x) (q .standard) (q .count) least (w .marks)) places
+      answer =
+          tried .0 ∙ ap (λ (z : ℕ). enters s z (p .standard) (p .count) least (w .marks)) slot ∙ ap (λ (q : Places). enters s (slotOf s x) (q .standard) (q .count) least (w .marks)) places
+          ∙ by-bool (placesIn s x .standard) (λ e. ap (λ (q : Places). enters s (slotOf s x) (q .standard) (q .count) least (w .marks)) (same-places s x e)) (λ e. wrong (placesOf (rawIn s x) .standard) (placesOf (rawIn s x) .count) (same-flag s x ∙ e) ∙ sym (loose e))
+        where
+          wrong : (b : Bool) (n : ℕ) → b ≡ false → enters s (slotOf s x) b n least (w .marks) ≡ false
+          wrong b n e = unfold enters in rw e
 
       pub visit-2 : (f : struct.Seen) (us : List ℕ) → not r ≡ true → f .right ≡ false → seenOf s f us ≡ visitIn s h least x w
       visit-2 f us n e = seen-wrong s f us e ∙ sym (node-is ∙ pickF _ _ (sym answer ∙ not-true r n))
@@ -128,6 +136,9 @@ module _ (s : List ℕ) (bs : Bytes s) (h least x : ℕ) (w : SeenWords) (there 
 
         standard : placesIn s x .standard ≡ true
         standard = by-bool (placesIn s x .standard) (λ e. e) (λ e. no-way (sym yes ∙ loose e))
+
+        in-places : p ≡ placesIn s x
+        in-places = places ∙ same-places s x standard
 
         same-slot : y ≡ x
         same-slot = slot ∙ standard-slot s bs x standard
@@ -140,32 +151,32 @@ module _ (s : List ℕ) (bs : Bytes s) (h least x : ℕ) (w : SeenWords) (there 
 
         -- every key lies in the store
         pub keys-fit : {at : ℕ} → at ≡ start y → (i : ℕ) → at + 4 + getD (p .starts) i 0 + getD (p .lens) i 0 ≤ length s
-        keys-fit a i = rw (from-is a, places) (key-fits s bs x standard i)
+        keys-fit a i = rw (from-is a, in-places) (key-fits s bs x standard i)
 
         -- the node's first child was walked
         pub visit-entered : {at : ℕ} {o : Option SeenWords} → at ≡ start y → o ≡ visitIn s (h - 1) 4 (getD (p .children) 0 (childOf 0) .0) (record { marks = vs; last = w .last })
             → visitIn s h least x w ≡ bind o (restFrom s (h - 1) (at + 4) p 0 (p .count))
         visit-entered {at} {o} a q =
-            let c : getD (p .children) 0 (childOf 0) .0 ≡ firstIn s x = ap (λ (t : Places). getD (t .children) 0 (childOf 0) .0) places ∙ first-is s x in
+            let c : getD (p .children) 0 (childOf 0) .0 ≡ firstIn s x = ap (λ (t : Places). getD (t .children) 0 (childOf 0) .0) in-places ∙ first-is s x in
             let o-is : o ≡ visitIn s (h - 1) 4 (firstIn s x) (record { marks = marked (w .marks) x; last = w .last }) =
             q ∙ ap (λ (z : ℕ). visitIn s (h - 1) 4 z (record { marks = vs; last = w .last })) c ∙ ap (λ (us : List ℕ). visitIn s (h - 1) 4 (firstIn s x) (record { marks = us; last = w .last })) marks-are in
             node-is ∙ pickT _ _ yes
             ∙ ap (λ (t : Option SeenWords). bind t (restFrom s (h - 1) (start x + 4) (placesIn s x) 0 (placesIn s x .count))) (sym o-is)
-            ∙ ap (λ (t : Places). bind o (restFrom s (h - 1) (start x + 4) t 0 (t .count))) (sym places)
+            ∙ ap (λ (t : Places). bind o (restFrom s (h - 1) (start x + 4) t 0 (t .count))) (sym in-places)
             ∙ ap (λ (z : ℕ). bind o (restFrom s (h - 1) (z + 4) p 0 (p .count))) (sym (from-is a))
 
-module _ (s : List ℕ) (x : ℕ) {p : Places} (places : p ≡ placesIn s x) where
+module _ (s : List ℕ) (x : ℕ) {p : Places} (places : p ≡ placesOf (rawIn s x)) where
   pub few-separators : p .count ≤ 8
-  few-separators = rw places (count-few s x)
+  few-separators = rw places (places-few (rawIn s x))
 
   pub eight-starts : length (p .starts) ≡ 8
-  eight-starts = rw places (starts-eight s x)
+  eight-starts = rw places (starts-eight (rawIn s x))
 
   pub eight-lens : length (p .lens) ≡ 8
-  eight-lens = rw places (lens-eight s x)
+  eight-lens = rw places (lens-eight (rawIn s x))
 
   pub nine-children : length (p .children) ≡ 9
-  nine-children = rw places (children-nine s x)
+  nine-children = rw places (children-nine (rawIn s x))
 
 -- ---- along the node: the invariant is the rest of the walk
 

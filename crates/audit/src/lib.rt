@@ -263,7 +263,7 @@ fn visit(
         };
     }
     let slot = slots::slot_of(store, child);
-    let places = slots::read_places(store, child);
+    let places = slots::node_places(store, child);
     let count = places.count;
     if !enter(store, marks, slot, places.standard, count, least) {
         return failed();

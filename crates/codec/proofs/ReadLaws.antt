@@ -7,19 +7,20 @@ use lib.ListN.{length, getD, take, drop, replicate, length-append, length-map, l
 use lib.Dec.{leb}
 use native.Mathlib.Omega.{arith}
 use borrow.Author.Tests.{eq-eqb, ne-eqb, not-true, not-false, le-ltb, lt-ltb}
-use Rattle.word.specs.Pick.{pickT, pickF}
+use Rattle.word.specs.Pick.{pick, pickT, pickF}
 use Rattle.word.specs.Part.{part, over}
 use Rattle.word.specs.At.{fitsIn, readAt, copyAt}
 use Rattle.word.proofs.PartLaws.{over-seam, length-part}
 use Rattle.word.proofs.AtLaws.{copyAt-in}
 use Rattle.codec.specs.declared.Ending.{Ending}
-use Rattle.codec.specs.declared.Ending.the-variants.{ZeroValue, ShortHead, ShortSize, ShortKey, LongKey}
+use Rattle.codec.specs.declared.Ending.the-variants.{ZeroValue, ShortChild, ShortHead, ShortSize, ShortKey, LongKey}
 use Rattle.codec.specs.declared.Head.{Head}
 use Rattle.codec.specs.declared.Head.the-variants.{Separator, Ended}
 use Rattle.codec.specs.declared.Places.{Places}
 use Rattle.codec.specs.declared.Reading.{Reading}
+use Rattle.node.specs.declared.Node.{Node}
 use Rattle.node.specs.Chain.{Step, longestKey, padded, childOf, valueOf, blocks, nodeOf}
-use Rattle.codec.specs.Codec.{Spot, isAccepted, isNoByteLeft, keyAt, sizeAt, headAt, scan, stepOf}
+use Rattle.codec.specs.Codec.{Spot, isAccepted, isNoByteLeft, keyAt, sizeAt, headAt, scanFrom, settle, scan, stepOf}
 use Rattle.codec.specs.Layout.{layout, placesOf, readingOf, placeIn, keyPlace}
 use Rattle.codec.specs.Mirror.{endedWith, copied}
 use Rattle.codec.proofs.ScanLaws.{refused-not-whole, AllLie, scan-lies}
@@ -62,6 +63,12 @@ module _ (s : List ℕ) (at : ℕ) {b : Bool} (f : b ≡ fitsIn (length s) at 9)
       pub head-4 : {n : ℕ} {p : Bool} {h : Head} → not c ≡ false → n ≡ readAt 4 s (at + 9) → p ≡ leb 255 n → h ≡ keyAt s v (at + 13) n p → h ≡ headAt s at
       unfolding headAt sizeAt
       head-4 u m e q = q ∙ rw (e, m, g) (sym (pickT _ _ (sym f ∙ not-false _ t) ∙ pickF _ _ (le-ltb _ 255 l) ∙ pickT _ _ (sym k ∙ not-false _ u)))
+
+-- ---- no bytes
+
+pub reads-none : {n : Node} → n ≡ nodeOf 0 [] → record { ending = ShortChild; node = n } ≡ readingOf []
+unfolding readingOf scan settle scanFrom fitsIn pick
+reads-none e = ap (λ (x : Node). record { ending = ShortChild; node = x }) e
 
 -- ---- ended
 

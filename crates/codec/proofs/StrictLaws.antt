@@ -16,6 +16,7 @@ use Rattle.codec.specs.declared.Ending.{Ending}
 use Rattle.codec.specs.declared.Ending.the-variants.{NoByteLeft, BytesIgnored, ZeroValue, ShortChild, ShortHead, ShortSize, ShortKey, LongKey}
 use Rattle.codec.specs.declared.Head.{Head}
 use Rattle.codec.specs.declared.Head.the-variants.{Separator, Ended}
+use Rattle.codec.specs.declared.Reading.{Reading}
 use Rattle.codec.specs.declared.Strict.{Strict}
 use Rattle.codec.specs.declared.Strict.the-variants.{LowSize, EndsIn}
 use Rattle.codec.specs.declared.Stopped.{Stopped}
@@ -27,6 +28,7 @@ use Rattle.codec.specs.Layout.{allPlain, isWhole, layout, placesOf, read
 use Rattle.codec.specs.Strict.{endNumber, strictNumber, isStrict, isLow, endsAt, judge, strictFrom, strictEnd, strictOf, strictReading}
 use Rattle.word.proofs.AtLaws.{fits-in, fits-true}
 use Rattle.codec.proofs.ScanLaws.{and-left, and-right, each, refused-not-whole, scan-sound}
+use Rattle.codec.proofs.ReadLaws.{reads-none}
 use Rattle.codec.proofs.EncodeLaws.{scan-finds}
 use Rattle.codec.proofs.Theorems.{Numbered, decodedNode, read-decodes, scan-writable, standard-flagged}
 
@@ -410,7 +412,7 @@ unfolding strictReading strictOf pick
 strict-decodes s = rw (← strict-flag s) (go (isStrict (strictEnd s .ending)) refl)
   where
     nothing : readingOf [] .node ≡ nodeOf 0 []
-    nothing = unfold readingOf scan settle scanFrom fitsIn in refl
+    nothing = ap (λ (x : Reading). x .node) (sym (reads-none refl))
 
     go : (b : Bool) → isStrict (strictEnd s .ending) ≡ b
         → _≡_ {A = Numbered} (record { number = strictNumber (strictEnd s .ending); node = readingOf (pick b s []) .node }) (decodedNode (pick b (decode s) (refused (strictNumber (strictEnd s .ending)))))

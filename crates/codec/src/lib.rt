@@ -1,6 +1,7 @@
 // Node bytes read and written.
 ghost use mathlib.Core.Path.{_≡_};
 ghost use mathlib.Core.Bool.{_&&_};
+ghost use mathlib.Core.List.{[]};
 ghost use Prim.Native.Nat.{_+_, _≤_};
 ghost use lib.Dec.{leb};
 ghost use lib.ListN.{length};
@@ -135,6 +136,18 @@ impl Ending {
             Ending::ShortSize => false,
             Ending::ShortKey => false,
             Ending::LongKey => false,
+        }
+    }
+}
+
+impl Reading {
+    // The reading of no bytes, which is refused.
+    pub fn none() -> Reading
+        ensures { λ r. ⌜ r ≡ readingOf [] ⌝ }
+    {
+        Reading {
+            ending: Ending::ShortChild,
+            node: Node::empty(),
         }
     }
 }
@@ -496,7 +509,7 @@ pub fn read_standard(s: &[u8]) -> Reading
 {
     let places = Places::read(s);
     if !places.standard {
-        return read(&s[0..0]);
+        return Reading::none();
     }
     with_keys(s, places)
 }

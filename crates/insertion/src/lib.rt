@@ -80,35 +80,7 @@ fn place_of(places: Places, i: Index) -> usize
 
 // ---- a separator taken in by the node above
 
-// A full node with one separator more, in two slots; bad where no second one is free.
-fn split_node(
-    store: &mut [u8],
-    slot: Slot,
-    node: Node,
-    i: Index,
-    sep: Separator,
-    child: Child,
-) -> Outcome
-    ensures { λ r. ⌜ ((c : ℕ) (q : List Step) (e : Sep ℕ) → node ≡ nodeOf c q → Writable c q → length q ≡ 8 → i .0 ≤ 8 → sep ≡ separatorOf e → Fit e → Makes (placeM (now (store .entry)) (insertedAt (i .0) e (child .0) (record { slot = slot .0; first = c; rest = q }))) r (now (store .exit))) ⌝ }
-{
-    let both = node.split(i, sep, child);
-    let right = slots::take_slot(store);
-    if right.0 == 0 {
-        return Outcome::of(Came::Bad);
-    }
-    let left_half = both.left;
-    let right_half = both.right;
-    slots::write_node(store, slot, left_half);
-    slots::write_node(store, right, right_half);
-    let middle = both.middle;
-    Outcome {
-        came: Came::Split,
-        right: right,
-        separator: middle,
-    }
-}
-
-// The full node of a child with one separator more, in two slots.
+// The full node of a child with one separator more, in two slots; bad where no second one is free.
 fn split_full(
     store: &mut [u8],
     child: Child,
@@ -119,10 +91,21 @@ fn split_full(
 ) -> Outcome
     ensures { λ r. ⌜ SplitsFull (now (store .entry)) (child .0) (i .0) (record { key = now (key .entry); val = value .0 }) (right .0) r (now (store .exit)) ⌝ }
 {
-    let reading = slots::read_node(store, child);
-    let node = reading.node;
+    let reading = codec::read_standard(slots::node_bytes(store, child));
     let slot = slots::slot_of(store, child);
-    split_node(store, slot, node, i, Separator::new(key, value), right)
+    let both = reading.node.split(i, Separator::new(key, value), right);
+    let second = slots::take_slot(store);
+    if second.0 == 0 {
+        return Outcome::of(Came::Bad);
+    }
+    slots::write_node(store, slot, both.left);
+    slots::write_node(store, second, both.right);
+    let middle = both.middle;
+    Outcome {
+        came: Came::Split,
+        right: second,
+        separator: middle,
+    }
 }
 
 // A separator and the child right of it taken in by a node with so many separators, at a place among its bytes; one that is full

@@ -563,6 +563,18 @@ module _ (s : List ℕ) (x : ℕ) where
       (λ e h. refl)
       (λ e h. let z : _≡_ {A = Bool} false true = sym (ap (λ (p : Places). p .standard) no-places) ∙ h in cc)
 
+  -- whether the bytes there are in standard form, and then the places
+  pub same-flag : placesOf (rawIn s x) .standard ≡ placesIn s x .standard
+  unfolding placesIn bytesIn layout.layout
+  same-flag =
+      by-test (λ (b : List ℕ). placesOf (rawIn s x) .standard ≡ placesOf b .standard) (placesOf (rawIn s x) .standard)
+      (λ e. refl)
+      (λ e. e ∙ sym (ap (λ (p : Places). p .standard) no-places))
+
+  pub same-places : placesIn s x .standard ≡ true → placesOf (rawIn s x) ≡ placesIn s x
+  unfolding placesIn
+  same-places e = ap placesOf (sym (raw-in e))
+
   pub places-are : {b : List ℕ} {p : Places} → b ≡ rawIn s x → p ≡ placesOf (standardOf b) → p ≡ placesIn s x
   unfolding placesIn bytesIn
   places-are e q = q ∙ ap (λ (b : List ℕ). placesOf (standardOf b)) e

@@ -3,9 +3,10 @@
 ghost use mathlib.Core.Path.{_≡_};
 ghost use Prim.Native.Nat.{_-_};
 ghost use lib.ListN.{length};
+ghost use Rattle.codec.specs.Layout.{placesOf};
 ghost use Rattle.slots.specs.Layout.{start, rootOf, depthOf, countOf, firstOf, isStore};
 ghost use Rattle.slots.specs.Mirror.{isSlot, takeSlot, freeSlot, setRoot};
-ghost use Rattle.slots.specs.Code.{hasSize, slotOf, rawIn, placesIn, readingIn, misfits, fitsDepth, readingAt, writtenIn, hasFree, linked, formatNumber, Formats};
+ghost use Rattle.slots.specs.Code.{hasSize, slotOf, rawIn, placesIn, misfits, fitsDepth, readingAt, writtenIn, hasFree, linked, formatNumber, Formats};
 ghost use Rattle.slots.specs.Search.{SawAt};
 ghost use Rattle.slots.specs.Splice.{insertedBytes, revaluedBytes};
 use codec::Places;
@@ -177,18 +178,18 @@ pub fn node_bytes(store: &[u8], child: Child) -> &[u8]
     &store[from..to]
 }
 
+// Their places, whatever the bytes are: for who asks for standard form by itself.
+pub fn node_places(store: &[u8], child: Child) -> Places
+    ensures { λ r. ⌜ r ≡ placesOf (rawIn (now (store .entry)) (child .0)) ⌝ }
+{
+    Places::read(node_bytes(store, child))
+}
+
 // That node's places, where its bytes are in standard form; else those of no bytes, which are refused.
 pub fn read_places(store: &[u8], child: Child) -> Places
     ensures { λ r. ⌜ r ≡ placesIn (now (store .entry)) (child .0) ⌝ }
 {
     Places::read_standard(node_bytes(store, child))
-}
-
-// The same as a whole node.
-pub fn read_node(store: &[u8], child: Child) -> Reading
-    ensures { λ r. ⌜ r ≡ readingIn (now (store .entry)) (child .0) ⌝ }
-{
-    codec::read_standard(node_bytes(store, child))
 }
 
 // ---- the child test of a depth
@@ -229,10 +230,10 @@ pub fn fits_depth(children: [Child; 9], count: usize, depth: u32) -> bool
 pub fn read_node_at(store: &[u8], child: Child, depth: u32) -> Reading
     ensures { λ r. ⌜ r ≡ readingAt depth (now (store .entry)) (child .0) ⌝ }
 {
-    let reading = read_node(store, child);
+    let reading = codec::read_standard(node_bytes(store, child));
     let children = reading.node.children;
     if !fits_depth(children, reading.node.count, depth) {
-        return codec::read(&store[0..0]);
+        return Reading::none();
     }
     reading
 }

@@ -24,7 +24,7 @@ impl Report {
     fn times(&self, text: &mut String) {
         head(text, "Nanoseconds for one", &NAMES);
         for row in &self.rows {
-            line(text, row.name, row.times.iter().map(|time| shown(*time, 0)));
+            line(text, row.name, NAMES.iter().map(|side| shown(row.time(side), 0)));
         }
     }
 
@@ -78,7 +78,7 @@ impl Report {
     }
 }
 
-fn shown(number: Option<f64>, digits: usize) -> String {
+pub fn shown(number: Option<f64>, digits: usize) -> String {
     number.map_or("-".to_owned(), |number| format!("{number:.digits$}"))
 }
 

@@ -1,5 +1,7 @@
 //! Who is compared. Each side does the same work by its own means.
 
+#[cfg(feature = "versus")]
+pub mod archives;
 mod map;
 pub mod proved;
 pub mod slots;

@@ -25,6 +25,16 @@ pub trait Face {
     fn read_node(bytes: &[u8]) -> usize;
 }
 
+pub fn lookups<F: Face>(store: &[u8], keys: &[Key]) -> Tally {
+    let mut tally = Tally::default();
+    for key in keys {
+        if let Some(value) = F::lookup(store, key) {
+            tally.value(value);
+        }
+    }
+    tally
+}
+
 pub struct InSlots<F> {
     pub store: Vec<u8>,
     pub marks: Vec<u64>,
@@ -65,13 +75,7 @@ impl<F: Face> Side for InSlots<F> {
     }
 
     fn lookups(&self, keys: &[Key]) -> Tally {
-        let mut tally = Tally::default();
-        for key in keys {
-            if let Some(value) = F::lookup(&self.store, key) {
-                tally.value(value);
-            }
-        }
-        tally
+        lookups::<F>(&self.store, keys)
     }
 
     fn scan(&self) -> Tally {

@@ -1,7 +1,7 @@
 //! 01's audit: the tree in order of its keys, then the free chain.
 
-use super::codec::compare;
-use super::layout::{mark_words, node_in, u32_at, Header, DEEPEST, LEAST, LONG, LONGEST_KEY, NODE, ORDER};
+use super::codec::{compare, take_standard};
+use super::layout::{mark_words, node_in, u32_at, Header, DEEPEST, LEAST, NODE, ORDER};
 use super::{number, Answer};
 
 /// How many slots are reached; the marks tell which.
@@ -94,19 +94,9 @@ impl<'a> Visit<'a, '_> {
     /// The separator at the front of the rest, in standard form, its key above the last one.
     #[inline]
     fn separator(&mut self, rest: &mut &'a [u8]) -> Answer<()> {
-        let (head, mut behind) = rest.split_first_chunk::<9>().ok_or(number::FAILS)?;
-        require(head[..8] != [0; 8])?;
-        let mut len = usize::from(head[8]);
-        if len == LONG {
-            let size = behind.split_first_chunk().ok_or(number::FAILS)?;
-            len = u32::from_le_bytes(*size.0) as usize;
-            behind = size.1;
-            require((LONG..=LONGEST_KEY).contains(&len))?;
-        }
-        let (key, behind) = behind.split_at_checked(len).ok_or(number::FAILS)?;
+        let key = take_standard(rest)?.key;
         require(self.last.is_none_or(|last| compare(last, key).is_lt()))?;
         self.last = Some(key);
-        *rest = behind;
         Ok(())
     }
 

@@ -1,4 +1,4 @@
-//! Node bytes: read with every test that 01 asks for, and written in standard form.
+//! Node bytes: read with every test that the rules ask for, leniently or strictly, and written in standard form.
 
 use super::layout::{LONG, LONGEST_KEY, ORDER};
 use super::{number, Answer};
@@ -19,9 +19,9 @@ pub fn take_child(rest: &mut &[u8]) -> Answer<u64> {
     Ok(u64::from_le_bytes(*child))
 }
 
-/// The separator at the front of the rest, or none where the node ends.
+/// The separator at the front of the rest, or none where the node ends: the lenient reading.
 #[inline(always)]
-pub fn take_separator<'a>(rest: &mut &'a [u8]) -> Answer<Option<Separator<'a>>> {
+fn take_separator<'a>(rest: &mut &'a [u8]) -> Answer<Option<Separator<'a>>> {
     if rest.is_empty() {
         return Ok(None);
     }
@@ -44,6 +44,28 @@ pub fn take_separator<'a>(rest: &mut &'a [u8]) -> Answer<Option<Separator<'a>>> 
     Ok(Some(Separator { value, key }))
 }
 
+/// The separator at the front of the rest, which has to be in standard form. Who asks for that answers every refusal alike.
+#[inline(always)]
+pub fn take_standard<'a>(rest: &mut &'a [u8]) -> Answer<Separator<'a>> {
+    let (head, mut behind) = rest.split_first_chunk::<9>().ok_or(number::FAILS)?;
+    let value = u64::from_le_bytes(*head.first_chunk().expect("eight bytes"));
+    let mut len = usize::from(head[8]);
+    if len == LONG {
+        let size = behind.split_first_chunk().ok_or(number::FAILS)?;
+        len = u32::from_le_bytes(*size.0) as usize;
+        behind = size.1;
+        if !(LONG..=LONGEST_KEY).contains(&len) {
+            return Err(number::FAILS);
+        }
+    }
+    let (key, behind) = behind.split_at_checked(len).ok_or(number::FAILS)?;
+    if value == 0 {
+        return Err(number::FAILS);
+    }
+    *rest = behind;
+    Ok(Separator { value, key })
+}
+
 /// The order of keys.
 #[inline(always)]
 pub fn compare(left: &[u8], right: &[u8]) -> Ordering {
@@ -58,6 +80,7 @@ pub struct Places<'a> {
     pub keys: [&'a [u8]; ORDER],
 }
 
+/// The lenient reading.
 pub fn read(bytes: &[u8]) -> Answer<Places<'_>> {
     let mut places = Places { count: 0, children: [0; ORDER + 1], values: [0; ORDER], keys: [&[]; ORDER] };
     let mut rest = bytes;

@@ -1,6 +1,6 @@
 //! Lookup and cursor: walks from the root that test every node they read.
 
-use super::codec::{compare, take_child, take_separator, Separator};
+use super::codec::{compare, take_child, take_standard, Separator};
 use super::layout::{node_in, Header, DEEPEST, LONGEST_KEY, ORDER};
 use super::{number, Answer};
 use std::cmp::Ordering;
@@ -12,13 +12,16 @@ struct Passed<'a> {
     child: u64,
 }
 
-/// Reads all of a node. `stops` is asked of each key until it says yes.
+/// Reads all of a node, which has to be in standard form. `stops` is asked of each key until it says yes.
 #[inline(always)] // so that a search pays only for the parts of the answer that it uses
 fn pass<'a>(node: &'a [u8], is_leaf: bool, mut stops: impl FnMut(&'a [u8]) -> bool) -> Answer<Passed<'a>> {
     let mut rest = node;
     let mut passed = Passed { before: None, behind: None, child: fitting_child(&mut rest, is_leaf)? };
     for _ in 0..ORDER {
-        let Some(separator) = take_separator(&mut rest)? else { break };
+        if rest.is_empty() {
+            break;
+        }
+        let separator = take_standard(&mut rest)?;
         let child = fitting_child(&mut rest, is_leaf)?;
         if passed.behind.is_some() {
             continue;
@@ -30,7 +33,11 @@ fn pass<'a>(node: &'a [u8], is_leaf: bool, mut stops: impl FnMut(&'a [u8]) -> bo
             passed.child = child;
         }
     }
-    Ok(passed)
+    if rest.is_empty() {
+        Ok(passed)
+    } else {
+        Err(number::FAILS)
+    }
 }
 
 /// A leaf has no child, any other node has all of them.

@@ -10,11 +10,8 @@ read-standard-spec =
     tie.close
     (tie.spec
     (λ c κs. search needs)  -- read-requires
-    (λ c. search needs)  -- sub-read
-    (λ c. search needs)  -- part-read-start
-    (λ c. search needs)  -- part-read-end
-    (λ c κs. search needs)  -- read-requires-2
-    (λ c. of-none _ (c .before .before .before .before .read .ensures) readingOf (c .before .before .if1 .taken) (c .read2 .ensures))  -- returns
+    (λ c κs. search needs)  -- none-requires
+    (λ c. of-none _ (c .before .before .before .read .ensures) readingOf (c .before .if1 .taken) (c .none .ensures))  -- returns
     (λ c κs. (c .before .before .read .ensures))  -- with-keys-requires
     (λ c. of-all _ (c .before .before .before .read .ensures) readingOf (c .before .if1 .left) (c .with-keys .ensures))  -- returns-2
     )

@@ -1,4 +1,4 @@
-//! Finds what is installed to compare with.
+//! LMDB and SQLite, where they are installed.
 
 use std::env;
 use std::path::Path;
@@ -6,8 +6,7 @@ use std::path::Path;
 /// A cfg, and the header and the library that have to be there for it.
 const LIBRARIES: [(&str, &str, &str); 2] = [("lmdb", "lmdb.h", "lmdb"), ("sqlite", "sqlite3.h", "sqlite3")];
 
-fn main() {
-    println!("cargo:rerun-if-changed=build.rs");
+pub fn link() {
     println!("cargo:rustc-check-cfg=cfg(lmdb, sqlite)");
     for (cfg, header, library) in LIBRARIES {
         if is_installed(header, library) {
