@@ -88,7 +88,7 @@ module _ (n root depth : ℕ) (small : n < 2 ^ 32) (d : ℕ) (s : List ℕ) (m :
       fine = record {
         first = f.0;
         rest = rw (← take_map (label d) 4 m.rest) (fit_take 4 (map_right (label d) m.rest) f.1);
-        most = rw (length_map_right (label d) (take 4 m.rest), length_take) (omega arith);
+        most = rw (length_map_right (label d) (take 4 m.rest), length-take) (omega arith);
       };
     }
 

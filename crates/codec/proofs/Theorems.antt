@@ -146,7 +146,7 @@ when_done n d len e = subst (IfDone n d) e (if_done n d)
 module _ (n : Node) (t : Typed n) (short : any_first is_long n.count n.lens ≡ false) (there : any_first is_none n.count n.values ≡ false) (few : n.count ≤ 8) where
   at_most : (s : List ℕ) (a m : ℕ) → length (part s a m) ≤ m
   unfolding part
-  at_most s a m = omega (arith, length_take m (drop a s))
+  at_most s a m = omega (arith, length-take m (drop a s))
 
   steps_fit : (i k : ℕ) → i + k ≤ n.count → FitAll (steps_from n i k)
   steps_fit i zero h = tt

@@ -71,7 +71,7 @@ module _ (s : List ℕ) (x i : ℕ) (child : Child) (c : ℕ) (q : List Step) (e
   fit_grown small = fit_insert i (e, child.0) q fit small fine.rest
 
   left_writable : child.0 < 2 ^ 64 → Writable c (take 4 grown)
-  left_writable small = record { first = fine.first; rest = fit_take 4 grown (fit_grown small); most = omega (arith, length_take 4 grown) }
+  left_writable small = record { first = fine.first; rest = fit_take 4 grown (fit_grown small); most = omega (arith, length-take 4 grown) }
 
   fit_right : child.0 < 2 ^ 64 → FitAll (step_at 4 grown ∷ drop 5 grown)
   unfolding step_at

@@ -112,7 +112,7 @@ module _ {A : Type 0} (a : List A) (i : ℕ) where
   pub take_removed : (w : ℕ) (zs : List A) (n : ℕ) → length a ≡ n → length zs ≡ w → i + w ≤ n → take n (removed i w a ++ zs) ≡ take i a ++ (drop (i + w) a ++ zs)
   unfolding removed
   take_removed w zs n e f h =
-      let l : length ((take i a ++ drop (i + w) a) ++ zs) ≡ n = simp (length-append, length_take, length-drop) (omega arith) in
+      let l : length ((take i a ++ drop (i + w) a) ++ zs) ≡ n = simp (length-append, length-take, length-drop) (omega arith) in
       take_all n ((take i a ++ drop (i + w) a) ++ zs) (omega arith) ∙ append_assoc (take i a) (drop (i + w) a) zs
 
   pub remove_past : (w : ℕ) (zs : List A) (n : ℕ) → length a ≡ n → n ≤ i → a ≡ take n (removed i w a ++ zs)
@@ -212,7 +212,7 @@ module _ {A : Type 0} (z : A) where
     padded_inserted i b h g =
         let k : ℕ = n - length l in
         let r : List A = inserted i b l in
-        let lr : length r ≡ length l + length b = unfold inserted in simp (length-append, length_take, length-drop) (omega arith) in
+        let lr : length r ≡ length l + length b = unfold inserted in simp (length-append, length-take, length-drop) (omega arith) in
         let e : n ≡ length r + (n - length r) = omega arith in
         rw (outside, inserted_left l (replicate k z) i b h) (ap (λ (m : ℕ). take m (r ++ replicate k z)) e ∙ take-append-add r (replicate k z) (n - length r) ∙ rw (take_repeated (n - length r) k (omega arith)) (padded_is n r))
 
@@ -220,7 +220,7 @@ module _ {A : Type 0} (z : A) where
     padded_removed i w h =
         let k : ℕ = n - length l in
         let r : List A = removed i w l in
-        let lr : length r ≡ length l - w = unfold removed in simp (length-append, length_take, length-drop) (omega arith) in
+        let lr : length r ≡ length l - w = unfold removed in simp (length-append, length-take, length-drop) (omega arith) in
         let e : k + w ≡ n - length r = omega arith in
         rw (outside, removed_left l (replicate k z) i w h, append_assoc r (replicate k z) (replicate w z), replicate-append-replicate k w z, e)
         (take_all n (r ++ replicate (n - length r) z) (simp (length-append, length-replicate) (omega arith)) ∙ padded_is n r)
@@ -278,11 +278,11 @@ module _ {A B : Type 0} (f : A → B) where
 
   pub map_inserted : (i : ℕ) (b l : List A) → map f (inserted i b l) ≡ inserted i (map f b) (map f l)
   unfolding inserted
-  map_inserted i b l = map_append f (take i l) (b ++ drop i l) ∙ rw (map_append f b (drop i l), map_taken i l, map_dropped i l)
+  map_inserted i b l = map-append f (take i l) (b ++ drop i l) ∙ rw (map-append f b (drop i l), map_taken i l, map_dropped i l)
 
   pub map_removed : (i w : ℕ) (l : List A) → map f (removed i w l) ≡ removed i w (map f l)
   unfolding removed
-  map_removed i w l = map_append f (take i l) (drop (i + w) l) ∙ rw (map_taken i l, map_dropped (i + w) l)
+  map_removed i w l = map-append f (take i l) (drop (i + w) l) ∙ rw (map_taken i l, map_dropped (i + w) l)
 
   -- a change that f sees as y
   pub map_changed : (i : ℕ) (g : A → A) (y : B) (l : List A) → ((x : A) → f (g x) ≡ y) → map f (change_at i g l) ≡ set (map f l) i y

@@ -90,7 +90,7 @@ cut_front k n m e = rw e (take_min m k)
 pub new_separator : (k : List ℕ) (v : Value) {n : ℕ} {b : List ℕ} → n ≡ min (length k) 288 → b ≡ copy_at (replicate 288 0) 0 k 0 n
     → record { value = v; len = n; key = b } ≡ separator_of (record { key = take 288 k; val = v.0 })
 new_separator k v {n} {b} e f =
-    let l : n ≡ length (take 288 k) = omega (arith, length_take 288 k) in
+    let l : n ≡ length (take 288 k) = omega (arith, length-take 288 k) in
     let t : part k 0 n ≡ take 288 k = cut_front k n 288 l in
     let q : b ≡ padded 288 0 (take 288 k) = f ∙ copy_at_in (replicate 288 0) 0 k 0 n (omega (arith, length-replicate {A = ℕ} 288 0)) (omega arith) ∙ over_zeros 0 288 (part k 0 n) ∙ rw t in
     rw (q, l)

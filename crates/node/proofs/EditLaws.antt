@@ -54,7 +54,7 @@ module _ (c : ℕ) (r : List Step) (x : Step) (full : length r ≡ 8) where
       ∙ parted_at c (insert_at i x (take 3 r)) (step_at 3 r) (drop 4 r) (length_inserted three)
     where
       length_inserted : length (take 3 r) ≡ 3 → length (insert_at i x (take 3 r)) ≡ 4
-      length_inserted three = unfold inserted in simp (length-append, length_take, length-drop) (omega arith)
+      length_inserted three = unfold inserted in simp (length-append, length-take, length-drop) (omega arith)
 
   -- "above 4 old index 4"
   pub halves_above_4 : (i : ℕ) → 4 < i → halves i x (c, r) ≡ record { left = (c, take 4 r); middle = (step_at 4 r).0; right = ((step_at 4 r).1, insert_at (i - 5) x (drop 5 r)) }
@@ -104,7 +104,7 @@ module _ {B : Type 0} (n : ℕ) (z : B) (f : Step → B) (r : List Step) (fit : 
   mapped_over x q h =
       let l = length-map r f in
       let k = length-map q f in
-      rw (take_own z n (length q) (map f q) k) (padded_over z n (map f r) mapped_fit (f x ∷ map f q) (length r) l (omega arith) ∙ ap (padded n z) (sym (map_append f r (x ∷ q))))
+      rw (take_own z n (length q) (map f q) k) (padded_over z n (map f r) mapped_fit (f x ∷ map f q) (length r) l (omega arith) ∙ ap (padded n z) (sym (map-append f r (x ∷ q))))
 
   mapped_set : (i : ℕ) (g : Step → Step) (y : B) → i < length r → ((x : Step) → f (g x) ≡ y) → set (padded n z (map f r)) i y ≡ padded n z (map f (change_at i g r))
   mapped_set i g y h e = let l = length-map r f in padded_set z n (map f r) mapped_fit i y (omega arith) ∙ ap (padded n z) (sym (map_changed f i g y r e))
@@ -116,7 +116,7 @@ module _ {B : Type 0} (n : ℕ) (z : B) (f : Step → B) (r : List Step) (fit : 
   get_or_array i h =
       get_or_padded n z (map f r) i
       ∙ ap (λ (l : List Step). get_or (map f l) i z) (split_step r i h)
-      ∙ rw (map_append f (take i r) (step_at i r ∷ drop (suc i) r)) (get_or_at (map f (take i r)) (f (step_at i r)) (map f (drop (suc i) r)) z i (length-map (take i r) f ∙ length-take-le i r (omega arith)))
+      ∙ rw (map-append f (take i r) (step_at i r ∷ drop (suc i) r)) (get_or_at (map f (take i r)) (f (step_at i r)) (map f (drop (suc i) r)) z i (length-map (take i r) f ∙ length-take-le i r (omega arith)))
 
 -- ---- the keys of a chain
 
@@ -181,11 +181,11 @@ blocks_same (suc i) g (x ∷ r) e = rw (blocks_one x (change_at i g r), blocks_o
 
 pub length_less : (r : List Step) (i : ℕ) → i < length r → length (remove_at i r) ≡ length r - 1
 unfolding removed
-length_less r i h = simp (length-append, length_take, length-drop) (omega arith)
+length_less r i h = simp (length-append, length-take, length-drop) (omega arith)
 
 pub length_more : (r : List Step) (i : ℕ) (x : Step) → i ≤ length r → length (insert_at i x r) ≡ length r + 1
 unfolding inserted
-length_more r i x h = simp (length-append, length_take, length-drop) (omega arith)
+length_more r i x h = simp (length-append, length-take, length-drop) (omega arith)
 
 -- ---- nodes
 
@@ -369,7 +369,7 @@ node_join c r e d q fit sr k sq =
     ∙ same_node (simp length-append (omega arith))
     (rw (take_own (child_of 0) 9 (length q + 1) (child_of d ∷ map kid_of q) (omega arith))
     (padded_over (child_of 0) 9 (child_of c ∷ map kid_of r) (kids_fit c r nr) (child_of d ∷ map kid_of q) (length r + 1) (omega arith) (omega arith)
-    ∙ ap (λ (l : List Child). padded 9 (child_of 0) (child_of c ∷ l)) (sym (map_append kid_of r ((e, d) ∷ q)))))
+    ∙ ap (λ (l : List Child). padded 9 (child_of 0) (child_of c ∷ l)) (sym (map-append kid_of r ((e, d) ∷ q)))))
     (mapped_over 8 (value_of 0) val_of r nr (e, d) q (omega arith))
     (mapped_over 8 0 len_of r nr (e, d) q (omega arith))
     (rw (take_own 0 2304 (288 * length q) (blocks q) bq)

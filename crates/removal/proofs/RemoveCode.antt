@@ -58,7 +58,7 @@ module _ (p : List Step) (z : Step) (q : List Step) {i : ℕ} (h : length p ≡ 
   step_here = get_or_at p z q (record { key = []; val = 0 }, 0) i h
 
   kid_here : (c : ℕ) → get_or (kids (c, p ++ (z ∷ q))) (suc i) 0 ≡ z.1
-  kid_here c = rw (map_append (λ (x : Step). x.1) p (z ∷ q)) (get_or_at (map (λ (x : Step). x.1) p) z.1 (map (λ (x : Step). x.1) q) 0 i (length-map p (λ (x : Step). x.1) ∙ h))
+  kid_here c = rw (map-append (λ (x : Step). x.1) p (z ∷ q)) (get_or_at (map (λ (x : Step). x.1) p) z.1 (map (λ (x : Step). x.1) q) 0 i (length-map p (λ (x : Step). x.1) ∙ h))
 
   remove_here_lem : remove_at i (p ++ (z ∷ q)) ≡ p ++ q
   unfolding removed

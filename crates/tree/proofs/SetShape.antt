@@ -39,8 +39,8 @@ module _ {A C : Type 0} (P : C → Type 0) where
   split_fits lo n [] fs e q k ks kx = absurd (omega arith)
   split_fits lo n (x ∷ r) fs e q k ks kx = (
     record {
-      least = simp length_take (omega arith);
-      most = simp length_take (omega arith);
+      least = simp length-take (omega arith);
+      most = simp length-take (omega arith);
       kid = k;
       kids = take_all 4 n.rest ks;
     },

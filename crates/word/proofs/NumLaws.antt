@@ -143,7 +143,7 @@ all_zero_is s e = ap all_zero e ∙ all_zero_zeros (length s)
 
 pub all_zero_one : (b : ℕ) → all_zero (b ∷ []) ≡ eqb b 0
 unfolding all_zero
-all_zero_one b = and_true (eqb b 0)
+all_zero_one b = and-true (eqb b 0)
 
 pub all_zero_append : (a b : List ℕ) → all_zero (a ++ b) ≡ (all_zero a && all_zero b)
 unfolding all_zero

@@ -20,7 +20,7 @@ module _ {A : Type 0} where
 
   pub length_over : (s : List A) (a : ℕ) (b : List A) → a + length b ≤ length s → length (over s a b) ≡ length s
   unfolding over
-  length_over s a b h = simp (length-append, length_take, length-drop) (omega arith)
+  length_over s a b h = simp (length-append, length-take, length-drop) (omega arith)
 
   -- the same place
   pub part_over : (s : List A) (a n : ℕ) (b : List A) → a ≤ length s → length b ≡ n → part (over s a b) a n ≡ b
@@ -144,7 +144,7 @@ module _ {A : Type 0} where
   -- also where the list ends before the part does
   pub length_part_cut : (s : List A) (a n : ℕ) → length (part s a n) ≡ min n (length s - a)
   unfolding part
-  length_part_cut s a n = rw (length_take, length-drop)
+  length_part_cut s a n = rw (length-take, length-drop)
 
   pub over_none : (s : List A) (a : ℕ) → over s a [] ≡ s
   unfolding over
