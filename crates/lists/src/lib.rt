@@ -3,21 +3,25 @@
 //
 // Nothing here calls the crates that are compared. A list read by the same code that is under trial could agree with a
 // fault of that code.
-ghost use Rattle.std.specs.Prelude.{◌≡◌, ℕ, ◌<◌, ◌≤◌, true, length, slice_index};
-ghost use Rattle.io.specs.Counts.{IsPrefixLen};
+#![tactic(auto)]
+
+ghost use Rattle.std.specs.Prelude.{◌≡◌, ℕ, ◌++◌, ◌<◌, ◌≤◌, true, length, slice_index, decimal, IfOk, OnOk};
+ghost use Rattle.std.specs.Counts.{IsPrefixLen};
+ghost use Rattle.std.specs.Io.KnownBytes.{Appends};
 ghost use Rattle.lists.specs.Within.{Within};
 
-use libc::STDOUT_FILENO;
+use std::io;
+use std::io::{Read, Write};
 
 // What stands in a slice from start to before end.
-#[derive(Drop)]
+#[derive(Clone, Copy)]
 pub struct Span {
     pub start: usize,
     pub end: usize,
 }
 
 // Whether a case came out as the list has it, and the number that the code answered.
-#[derive(Drop)]
+#[derive(Clone, Copy)]
 pub struct Verdict {
     pub agreed: bool,
     pub number: u32,
@@ -27,7 +31,7 @@ pub struct Verdict {
 pub const NUMBERS: usize = 21;
 
 // How many cases, how many of them agreed, and how often the code answered each number.
-#[derive(Drop)]
+#[derive(Clone, Copy)]
 pub struct Tally {
     pub cases: u64,
     pub agreed: u64,
@@ -71,12 +75,9 @@ pub fn place(s: &[u8], at: usize, n: usize) -> Span
 // The number of n bytes at `at`, lowest first; 0 if the slice ends before.
 pub fn number(s: &[u8], at: usize, n: usize) -> u64 {
     let span = place(s, at, n);
-    let start = span.start;
-    let mut i = span.end;
     let mut x: u64 = 0;
-    while start < i {
-        i -= 1;
-        x = (x << 8) | wide(s[i]);
+    for b in s[span.start..span.end].iter().rev() {
+        x = (x << 8) | wide(*b);
     }
     x
 }
@@ -103,29 +104,31 @@ pub fn filled(s: &[u8], from: usize, b: u8) -> bool
     true
 }
 
-// A number of four bytes, read from a file: how many blocks follow, or how long a block is.
-pub fn read_number(fd: i32) -> usize {
+// A number of four bytes, read from a file: how many blocks follow, or how long a block is; 0 where the file ends before.
+pub fn read_number<R: Read>(file: &mut R) -> io::Result<usize> {
     let mut four = [0u8; 4];
-    let got = io::read_full(fd, &mut four);
-    number(&four[..got], 0, 4) as usize
+    let got = input::read_full(file, &mut four)?;
+    Ok(number(&four[..got], 0, 4) as usize)
 }
 
 // Reads the next block to the front of buf and answers its length; 0 where it isn't there whole or is too long.
-pub fn read_block(fd: i32, buf: &mut [u8]) -> usize
-    ensures { IsPrefixLen result buf.new }
+pub fn read_block<R: Read>(file: &mut R, buf: &mut [u8]) -> io::Result<usize>
+    ensures { IfOk result (λ n. IsPrefixLen n buf.new) }
 {
-    let len = read_number(fd);
+    let len = read_number(file)?;
     if buf.len() < len {
-        return 0;
+        return Ok(0);
     }
-    let got = io::read_full(fd, &mut buf[..len]);
-    if got == len { len } else { 0 }
+    let got = input::read_full(file, &mut buf[..len])?;
+    if got == len { Ok(len) } else { Ok(0) }
 }
 
-// Writes a text and a number behind it to standard output.
-pub fn say(text: &[u8], n: u64) {
-    io::write_all(STDOUT_FILENO, text);
-    io::print_decimal(STDOUT_FILENO, n);
+// Writes a text and a number behind it.
+pub fn say<W: Write>(out: &mut W, text: &[u8], n: u64) -> io::Result<()>
+    ensures { OnOk result (Appends (W.contents out.old) (W.contents out.new) (text.now ++ decimal n)) }
+{
+    out.write_all(text)?;
+    write!(out, "{n}")
 }
 
 impl Tally {
@@ -138,14 +141,13 @@ impl Tally {
     }
 
     pub fn with(mut self, verdict: Verdict) -> Tally {
-        self.cases = std::num::wrapping_add_u64(self.cases, 1);
+        self.cases = self.cases.wrapping_add(1);
         if verdict.agreed {
-            self.agreed = std::num::wrapping_add_u64(self.agreed, 1);
+            self.agreed = self.agreed.wrapping_add(1);
         }
         let number = verdict.number as usize;
         if number < NUMBERS {
-            let before = self.answers[number];
-            self.answers[number] = std::num::wrapping_add_u64(before, 1);
+            self.answers[number] = self.answers[number].wrapping_add(1);
         }
         self
     }

@@ -1,4 +1,8 @@
 // The program: house lines on standard input, entries or a refusal on standard output.
-fn main() {
-    shift::run_input();
+#![tactic(auto)]
+
+use std::io;
+
+fn main(rt: HostRuntime) -> io::Result<()> {
+    shift::run_input(&rt)
 }

@@ -1,4 +1,8 @@
 // The program on a text of as many rising sets as 25 slots take.
-fn main() {
-    shift::run_input();
+#![tactic(auto)]
+
+use std::io;
+
+fn main(rt: HostRuntime) -> io::Result<()> {
+    shift::run_input(&rt)
 }

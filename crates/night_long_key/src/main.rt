@@ -1,4 +1,8 @@
 // The program on a key of 289 bytes: 4.
-fn main() {
-    shift::run_input();
+#![tactic(auto)]
+
+use std::io;
+
+fn main(rt: HostRuntime) -> io::Result<()> {
+    shift::run_input(&rt)
 }

@@ -1,4 +1,8 @@
 // The program on one set more than 25 slots take: 9.
-fn main() {
-    shift::run_input();
+#![tactic(auto)]
+
+use std::io;
+
+fn main(rt: HostRuntime) -> io::Result<()> {
+    shift::run_input(&rt)
 }

@@ -23,7 +23,7 @@ use node::{Child, Index, Node, Value};
 const STRICT_LENGTH: usize = 3;
 
 // How node bytes are read.
-#[derive(Drop)]
+#[derive(Clone, Copy)]
 pub enum Rule {
     Lenient,
     Strict,
@@ -95,29 +95,23 @@ fn key(bytes: &[u8], told: &[u8], i: usize) -> Span
     lists::place(bytes, start, len)
 }
 
-fn same_children(children: [Child; 9], told: &[u8]) -> bool {
-    let mut i: usize = 0;
-    while i < 9 {
-        let found = children[i];
-        if found.0 != child(told, i) {
+fn same_children(children: &[Child; 9], told: &[u8]) -> bool {
+    for i in 0..9 {
+        if children[i].0 != child(told, i) {
             return false;
         }
-        i += 1;
     }
     true
 }
 
-fn same_separators(values: [Value; 8], lens: [usize; 8], told: &[u8]) -> bool {
-    let mut i: usize = 0;
-    while i < 8 {
-        let found = values[i];
-        if found.0 != field(told, i, 0, 8) {
+fn same_separators(values: &[Value; 8], lens: &[usize; 8], told: &[u8]) -> bool {
+    for i in 0..8 {
+        if values[i].0 != field(told, i, 0, 8) {
             return false;
         }
         if lens[i] as u64 != field(told, i, 10, 2) {
             return false;
         }
-        i += 1;
     }
     true
 }
@@ -128,25 +122,20 @@ fn holds(place: &[u8], key: &[u8]) -> bool {
     if place.len() < len {
         return false;
     }
-    if !check::same(&place[0..len], key) {
+    if &place[..len] != key {
         return false;
     }
     lists::filled(place, len, 0)
 }
 
 // The keys in the node's own array.
-fn same_keys(keys: [u8; 2304], bytes: &[u8], told: &[u8]) -> bool {
-    let mut i: usize = 0;
-    while i < 8 {
+fn same_keys(keys: &[u8; 2304], bytes: &[u8], told: &[u8]) -> bool {
+    for i in 0..8 {
         let from = 288 * i;
-        let to = from + 288;
         let span = key(bytes, told, i);
-        let start = span.start;
-        let end = span.end;
-        if !holds(&keys[from..to], &bytes[start..end]) {
+        if !holds(&keys[from..from + 288], &bytes[span.start..span.end]) {
             return false;
         }
-        i += 1;
     }
     true
 }
@@ -160,39 +149,30 @@ fn key_found(bytes: &[u8], i: usize, rule: Rule) -> &[u8] {
 
 // The keys as parts of the node bytes; the ninth is of no separator.
 fn same_parts(bytes: &[u8], told: &[u8], rule: Rule) -> bool {
-    let mut i: usize = 0;
-    while i < 9 {
+    for i in 0..9 {
         let span = key(bytes, told, i);
-        let start = span.start;
-        let end = span.end;
-        let found = key_found(bytes, i, rule);
-        if !check::same(found, &bytes[start..end]) {
+        if key_found(bytes, i, rule) != &bytes[span.start..span.end] {
             return false;
         }
-        i += 1;
     }
     true
 }
 
-fn same_node(node: Node, bytes: &[u8], told: &[u8]) -> bool {
-    let children = node.children;
-    let values = node.values;
-    let lens = node.lens;
-    let keys = node.keys;
+fn same_node(node: &Node, bytes: &[u8], told: &[u8]) -> bool {
     if node.count != separators(told) {
         return false;
     }
-    if !same_children(children, told) {
+    if !same_children(&node.children, told) {
         return false;
     }
-    if !same_separators(values, lens, told) {
+    if !same_separators(&node.values, &node.lens, told) {
         return false;
     }
-    same_keys(keys, bytes, told)
+    same_keys(&node.keys, bytes, told)
 }
 
 // What both readings answer: the number, the node, and the keys one by one.
-fn same_answer(number: u32, node: Node, bytes: &[u8], told: &[u8], rule: Rule) -> bool {
+fn same_answer(number: u32, node: &Node, bytes: &[u8], told: &[u8], rule: Rule) -> bool {
     if number as usize != lists::byte(told, 0) {
         return false;
     }
@@ -204,12 +184,10 @@ fn same_answer(number: u32, node: Node, bytes: &[u8], told: &[u8], rule: Rule) -
 
 fn check_lenient(bytes: &[u8], told: &[u8]) -> Verdict {
     let reading = codec::read(bytes);
-    let ending = reading.ending;
-    let number = ending.number();
-    let node = reading.node;
+    let number = reading.ending.number();
     Verdict {
-        agreed: is_whole(told) && same_answer(number, node, bytes, told, Rule::Lenient),
-        number: number,
+        agreed: is_whole(told) && same_answer(number, &reading.node, bytes, told, Rule::Lenient),
+        number,
     }
 }
 
@@ -227,25 +205,24 @@ fn strict_start(told: &[u8], at: usize) -> usize
 
 fn check_strict(bytes: &[u8], told: &[u8]) -> Verdict {
     let reading = codec::read_strict(bytes);
-    let ending = reading.ending;
-    let number = ending.number();
-    let node = reading.node;
+    let number = reading.ending.number();
     let at = lenient_length(told);
     let start = strict_start(told, at);
     let same_place = reading.at as u64 == lists::number(told, at + 1, 2);
-    let same = same_place && same_answer(number, node, bytes, &told[start..], Rule::Strict);
+    let same =
+        same_place && same_answer(number, &reading.node, bytes, &told[start..], Rule::Strict);
     Verdict {
         agreed: is_whole(told) && same,
-        number: number,
+        number,
     }
 }
 
 pub fn check(block: &[u8], rule: Rule) -> Verdict {
     let span = lists::part(block, 0);
-    let start = span.start;
-    let end = span.end;
+    let bytes = &block[span.start..span.end];
+    let told = &block[span.end..];
     match rule {
-        Rule::Lenient => check_lenient(&block[start..end], &block[end..]),
-        Rule::Strict => check_strict(&block[start..end], &block[end..]),
+        Rule::Lenient => check_lenient(bytes, told),
+        Rule::Strict => check_strict(bytes, told),
     }
 }

@@ -31,10 +31,8 @@ fn small(block: &[u8], at: usize, most: usize) -> usize
 fn children(block: &[u8]) -> [Child; 9] {
     let count = small(block, 1, 9);
     let mut children = [Child(0); 9];
-    let mut i: usize = 0;
-    while i < count {
+    for i in 0..count {
         children[i] = Child(lists::number(block, 2 + 8 * i, 8));
-        i += 1;
     }
     children
 }
@@ -46,11 +44,7 @@ fn put(keys: &mut [u8; 2304], at: usize, key: &[u8])
     if 2304 - at < key.len() {
         return;
     }
-    let mut i: usize = 0;
-    while i < key.len() {
-        keys[at + i] = key[i];
-        i += 1;
-    }
+    keys[at..at + key.len()].copy_from_slice(key);
 }
 
 // Places that no separator uses hold a value, a length and key bytes that would be refused or seen if they were used.
@@ -60,33 +54,29 @@ fn given(block: &[u8]) -> Case {
     let mut lens = [289usize; 8];
     let mut keys = [MARK; 2304];
     let mut at = 2 + 8 * small(block, 1, 9);
-    let mut i: usize = 0;
-    while i < count {
+    for i in 0..count {
         let key = lists::part(block, at + 8);
-        let start = key.start;
-        let end = key.end;
         values[i] = Value(lists::number(block, at, 8));
-        lens[i] = end - start;
-        put(&mut keys, 288 * i, &block[start..end]);
-        at = end;
-        i += 1;
+        lens[i] = key.end - key.start;
+        put(&mut keys, 288 * i, &block[key.start..key.end]);
+        at = key.end;
     }
     Case {
         node: Node {
-            count: count,
+            count,
             children: children(block),
-            values: values,
-            lens: lens,
-            keys: keys,
+            values,
+            lens,
+            keys,
         },
-        at: at,
+        at,
     }
 }
 
 fn write_to(node: Node, dst: &mut [u8], room: usize) -> Written
     requires { room ≤ length dst.old }
 {
-    codec::write(node, &mut dst[0..room])
+    codec::write(node, &mut dst[..room])
 }
 
 // Whether a writing into so much room gives the form and leaves the mark everywhere else; with less room than the form
@@ -113,7 +103,7 @@ fn writes(node: Node, form: &[u8], room: usize) -> bool {
     if written.length() != len {
         return false;
     }
-    if !check::same(&dst[0..len], form) {
+    if &dst[..len] != form {
         return false;
     }
     lists::filled(&dst, len, MARK)
@@ -137,10 +127,8 @@ fn writes_in_all(node: Node, form: &[u8]) -> bool {
 pub fn agrees(block: &[u8]) -> bool {
     let case = given(block);
     let form = lists::part(block, case.at);
-    let start = form.start;
-    let end = form.end;
-    if end != block.len() {
+    if form.end != block.len() {
         return false;
     }
-    writes_in_all(case.node, &block[start..end])
+    writes_in_all(case.node, &block[form.start..form.end])
 }
