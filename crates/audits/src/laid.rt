@@ -15,11 +15,7 @@ fn put(room: &mut [u8], at: usize, part: &[u8]) {
     if room.len() - at < part.len() {
         return;
     }
-    let mut i: usize = 0;
-    while i < part.len() {
-        room[at + i] = part[i];
-        i += 1;
-    }
+    room[at..at + part.len()].copy_from_slice(part);
 }
 
 // Lays the buffer out in the front of room, all zeros before; answers how long it is, and where the block goes on.
@@ -29,18 +25,11 @@ pub fn lay_out(room: &mut [u8], block: &[u8]) -> Span
     let len = lists::number(block, 0, 4) as usize;
     let parts = lists::number(block, 4, 2) as usize;
     let mut at = lists::place(block, 0, 6).end;
-    let mut i: usize = 0;
-    while i < parts {
+    for _ in 0..parts {
         let part = lists::part(block, at + 4);
-        let start = part.start;
-        let end = part.end;
-        put(
-            room,
-            lists::number(block, at, 4) as usize,
-            &block[start..end],
-        );
-        at = end;
-        i += 1;
+        let place = lists::number(block, at, 4) as usize;
+        put(room, place, &block[part.start..part.end]);
+        at = part.end;
     }
     Span {
         start: len,

@@ -4,8 +4,12 @@
 use std::io;
 use std::io::Write;
 
+fn say<W: Write>(out: &mut W, name: &[u8]) -> io::Result<()> {
+    out.write_all(name)
+}
+
 fn try_text<W: Write>(out: &mut W, name: &[u8], text: &[u8]) -> io::Result<()> {
-    out.write_all(name)?;
+    say(out, name)?;
     shift::run(out, text)
 }
 

@@ -31,19 +31,16 @@ fn put(records: &mut [u8; 120], n: usize, kind: u8, keys: &[u8]) -> usize
     ensures { result ≤ 10 }
 {
     let mut next = n;
-    let mut i: usize = 0;
-    while i < keys.len() {
+    for key in keys {
         if MOST <= next {
             return next;
         }
         let at = RECORD * next;
-        let key = keys[i];
         records[at] = kind;
         records[at + 1] = 1;
-        records[at + 3] = value(kind, key);
-        records[at + 11] = key;
+        records[at + 3] = value(kind, *key);
+        records[at + 11] = *key;
         next += 1;
-        i += 1;
     }
     next
 }
@@ -68,24 +65,22 @@ fn run(store: &mut [u8], records: &[u8]) -> Answer {
     }
     insertion::start(store);
     let ended = btree::records::run_all(store, records);
-    let acted = ended.acted;
     Answer {
-        number: number(acted),
+        number: number(ended.acted),
         applied: ended.applied,
     }
 }
 
 // The first n of the records.
-fn run_first(store: &mut [u8], records: [u8; 120], n: usize) -> Answer
+fn run_first(store: &mut [u8], records: &[u8; 120], n: usize) -> Answer
     requires { n ≤ 10 }
 {
-    let end = RECORD * n;
-    run(store, &records[0..end])
+    run(store, &records[..RECORD * n])
 }
 
 pub fn apply(store: &mut [u8], sets: &[u8], removals: &[u8]) -> Answer {
     let mut records = [0u8; 120];
     let n = put(&mut records, 0, SET, sets);
     let n = put(&mut records, n, DEREFERENCE, removals);
-    run_first(store, records, n)
+    run_first(store, &records, n)
 }

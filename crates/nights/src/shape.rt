@@ -2,7 +2,8 @@
 // their reading could agree with a fault of their writing.
 ghost use Rattle.std.specs.Prelude.{◌≤◌, ◌<◌};
 
-use libc::STDOUT_FILENO;
+use std::io;
+use std::io::Write;
 
 // Where the header's fields stand.
 const DEPTH_AT: usize = 8;
@@ -52,57 +53,49 @@ fn key(store: &[u8], slot: u64, i: usize) -> u64
 }
 
 // A node's slot and its keys.
-fn say_node(store: &[u8], slot: u64) {
-    lists::say(b"slot ", slot);
-    io::write_all(STDOUT_FILENO, b":");
-    let n = separators(store, slot);
-    let mut i: usize = 0;
-    while i < n {
-        lists::say(b" ", key(store, slot, i));
-        i += 1;
+fn say_node<W: Write>(out: &mut W, store: &[u8], slot: u64) -> io::Result<()> {
+    lists::say(out, b"slot ", slot)?;
+    out.write_all(b":")?;
+    for i in 0..separators(store, slot) {
+        lists::say(out, b" ", key(store, slot, i))?;
     }
-    io::write_all(STDOUT_FILENO, b"\n");
+    out.write_all(b"\n")
 }
 
 // The children of the root behind its first.
-fn say_others(store: &[u8], root: u64) {
-    let n = separators(store, root);
-    let mut i: usize = 1;
-    while i <= n {
-        say_node(store, child(store, root, i));
-        i += 1;
+fn say_others<W: Write>(out: &mut W, store: &[u8], root: u64) -> io::Result<()> {
+    for i in 0..separators(store, root) {
+        say_node(out, store, child(store, root, i + 1))?;
     }
+    Ok(())
 }
 
 // The root behind its first child and before the others. No night's tree is deeper, and one that is shows it by its depth.
-pub fn say_tree(store: &[u8]) {
+pub fn say_tree<W: Write>(out: &mut W, store: &[u8]) -> io::Result<()> {
     let root = lists::number(store, 0, 8);
     let depth = lists::number(store, DEPTH_AT, 4);
-    lists::say(b"root ", root);
-    lists::say(b", depth ", depth);
-    io::write_all(STDOUT_FILENO, b"\n");
+    lists::say(out, b"root ", root)?;
+    lists::say(out, b", depth ", depth)?;
+    out.write_all(b"\n")?;
     if depth == 0 {
-        say_node(store, root);
-        return;
+        return say_node(out, store, root);
     }
-    say_node(store, child(store, root, 0));
-    say_node(store, root);
-    say_others(store, root);
+    say_node(out, store, child(store, root, 0))?;
+    say_node(out, store, root)?;
+    say_others(out, store, root)
 }
 
 // "A free slot: u32 0, u32 next free slot (0 last)"; a chain that doesn't end is cut behind as many slots as there are.
-pub fn say_free(store: &[u8]) {
-    io::write_all(STDOUT_FILENO, b"free:");
+pub fn say_free<W: Write>(out: &mut W, store: &[u8]) -> io::Result<()> {
+    out.write_all(b"free:")?;
     let count = lists::number(store, COUNT_AT, 4);
     let mut slot = lists::number(store, FIRST_FREE_AT, 4);
-    let mut i: u64 = 0;
-    while i < count {
+    for _ in 0..count {
         if slot == 0 {
             break;
         }
-        lists::say(b" ", slot);
+        lists::say(out, b" ", slot)?;
         slot = lists::number(store, start(slot) + 4, 4);
-        i += 1;
     }
-    io::write_all(STDOUT_FILENO, b"\n");
+    out.write_all(b"\n")
 }

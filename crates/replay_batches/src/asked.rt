@@ -12,7 +12,7 @@
 ghost use Rattle.lists.specs.Within.{Within};
 
 use crate::counts::{Count, Section};
-use iter::{Cursor, LookedUp, Place, Step, Stepped};
+use iter::{Cursor, LookedUp, Place, Step};
 use lists::Span;
 
 // Whether the answer was the list's, and the cursor after it.
@@ -57,7 +57,7 @@ fn bytes(block: &[u8], span: Span) -> &[u8] {
 
 fn put(place: Place) -> Cursor {
     Cursor {
-        place: place,
+        place,
         key: [0u8; 288],
     }
 }
@@ -67,7 +67,7 @@ pub fn at_start() -> Cursor {
 }
 
 // 0 Start, 1 End, 2 At, 3 Seeked.
-fn kind_of(place: Place) -> usize {
+fn kind_of(place: &Place) -> usize {
     match place {
         Place::Start => 0,
         Place::End => 1,
@@ -76,29 +76,25 @@ fn kind_of(place: Place) -> usize {
     }
 }
 
-fn length_of(place: Place) -> usize {
+fn length_of(place: &Place) -> usize {
     match place {
         Place::Start => 0,
         Place::End => 0,
-        Place::At(len) => len,
-        Place::Seeked(len) => len,
+        Place::At(len) => *len,
+        Place::Seeked(len) => *len,
     }
 }
 
 // Whether the cursor is at such a place with this key and zeros behind it.
-fn is_at(cursor: Cursor, kind: usize, key: &[u8]) -> bool {
-    let place = cursor.place;
-    let array = cursor.key;
-    let span = lists::place(&array, 0, key.len());
-    let start = span.start;
-    let end = span.end;
-    if kind_of(place) != kind {
+fn is_at(cursor: &Cursor, kind: usize, key: &[u8]) -> bool {
+    let span = lists::place(&cursor.key, 0, key.len());
+    if kind_of(&cursor.place) != kind {
         return false;
     }
-    if length_of(place) != key.len() {
+    if length_of(&cursor.place) != key.len() {
         return false;
     }
-    check::same(&array[start..end], key) && lists::filled(&array, end, 0)
+    &cursor.key[span.start..span.end] == key && lists::filled(&cursor.key, span.end, 0)
 }
 
 // ---- steps
@@ -115,9 +111,7 @@ fn value_of(step: Step) -> u64 {
 }
 
 // Whether a step came to this entry, or with the value 0 to the end of this kind.
-fn came(stepped: Stepped, key: &[u8], value: u64, end: usize) -> bool {
-    let step = stepped.step;
-    let cursor = stepped.cursor;
+fn came(step: Step, cursor: &Cursor, key: &[u8], value: u64, end: usize) -> bool {
     if step.number() != 0 {
         return false;
     }
@@ -132,19 +126,19 @@ fn came(stepped: Stepped, key: &[u8], value: u64, end: usize) -> bool {
 
 fn forward(store: &[u8], cursor: Cursor, key: &[u8], value: u64) -> Outcome {
     let stepped = cikolaro::forward(store, cursor);
-    let after = stepped.cursor;
+    let cursor = stepped.cursor;
     Outcome {
-        agreed: came(stepped, key, value, 1),
-        cursor: after,
+        agreed: came(stepped.step, &cursor, key, value, 1),
+        cursor,
     }
 }
 
 fn backward(store: &[u8], cursor: Cursor, key: &[u8], value: u64) -> Outcome {
     let stepped = cikolaro::backward(store, cursor);
-    let after = stepped.cursor;
+    let cursor = stepped.cursor;
     Outcome {
-        agreed: came(stepped, key, value, 0),
-        cursor: after,
+        agreed: came(stepped.step, &cursor, key, value, 0),
+        cursor,
     }
 }
 
@@ -152,28 +146,27 @@ fn seek(key: &[u8]) -> Outcome {
     let sought = cikolaro::seek(key);
     let cursor = sought.cursor;
     Outcome {
-        agreed: sought.accepted && is_at(cursor, 3, key),
-        cursor: cursor,
+        agreed: sought.accepted && is_at(&cursor, 3, key),
+        cursor,
     }
 }
 
 // ---- the entries
 
-fn both(a: Outcome, b: Outcome) -> bool {
+fn both(a: &Outcome, b: &Outcome) -> bool {
     a.agreed && b.agreed
 }
 
 // Whether no entry is behind the cursor, and backward from End comes to this one.
 fn ends(store: &[u8], cursor: Cursor, key: &[u8], value: u64) -> bool {
     let none = forward(store, cursor, b"", 0);
-    let end = none.cursor;
-    both(none, backward(store, end, key, value))
+    let last = backward(store, none.cursor, key, value);
+    both(&none, &last)
 }
 
 fn first_entry(block: &[u8], from: usize) -> Passed {
-    let at = lists::place(block, from, 2).end;
     Passed {
-        at: at,
+        at: lists::place(block, from, 2).end,
         count: Count::none(),
         cursor: at_start(),
         last: Span { start: 0, end: 0 },
@@ -183,33 +176,31 @@ fn first_entry(block: &[u8], from: usize) -> Passed {
 
 // One entry further; and from it back to the entry before.
 fn next_entry(store: &[u8], block: &[u8], before: Passed) -> Passed {
-    let at = before.at;
-    let count = before.count;
-    let place = before.cursor;
-    let last = before.last;
-    let key = lists::part(block, at);
+    let key = lists::part(block, before.at);
     let value = lists::number(block, key.end, 8);
-    let there = forward(store, place, bytes(block, key), value);
-    let cursor = there.cursor;
-    let back = backward(store, cursor, bytes(block, last), before.value);
+    let there = forward(store, before.cursor, bytes(block, key), value);
+    let back = backward(store, there.cursor, bytes(block, before.last), before.value);
     Passed {
         at: lists::place(block, key.end, 8).end,
-        count: count.with(both(there, back)),
-        cursor: cursor,
+        count: before.count.with(both(&there, &back)),
+        cursor: there.cursor,
         last: key,
-        value: value,
+        value,
     }
 }
 
 fn closed(store: &[u8], block: &[u8], entries: Passed) -> Section {
-    let cursor = entries.cursor;
-    let last = entries.last;
     let mut count = entries.count;
-    if !ends(store, cursor, bytes(block, last), entries.value) {
+    if !ends(
+        store,
+        entries.cursor,
+        bytes(block, entries.last),
+        entries.value,
+    ) {
         count.agreed = 0;
     }
     Section {
-        count: count,
+        count,
         end: entries.at,
     }
 }
@@ -219,10 +210,8 @@ fn closed(store: &[u8], block: &[u8], entries: Passed) -> Section {
 pub fn entries(store: &[u8], block: &[u8], from: usize) -> Section {
     let n = lists::number(block, from, 2) as usize;
     let mut state = first_entry(block, from);
-    let mut i: usize = 0;
-    while i < n {
+    for _ in 0..n {
         state = next_entry(store, block, state);
-        i += 1;
     }
     closed(store, block, state)
 }
@@ -248,18 +237,13 @@ pub fn lookups(store: &[u8], block: &[u8], from: usize) -> Section {
     let n = lists::number(block, from, 2) as usize;
     let mut at = lists::place(block, from, 2).end;
     let mut count = Count::none();
-    let mut i: usize = 0;
-    while i < n {
+    for _ in 0..n {
         let key = lists::part(block, at);
         let value = lists::number(block, key.end, 8);
         count = count.with(look_up(store, bytes(block, key), value));
         at = lists::place(block, key.end, 8).end;
-        i += 1;
     }
-    Section {
-        count: count,
-        end: at,
-    }
+    Section { count, end: at }
 }
 
 // ---- the walk
@@ -310,18 +294,15 @@ fn answer(store: &[u8], cursor: Cursor, kind: usize, key: &[u8], value: u64) -> 
 }
 
 fn start_walk(block: &[u8], from: usize, cursor: Cursor) -> Walked {
-    let at = lists::place(block, from, 2).end;
     Walked {
-        at: at,
+        at: lists::place(block, from, 2).end,
         count: Count::none(),
-        cursor: cursor,
+        cursor,
     }
 }
 
 fn next_step(store: &[u8], block: &[u8], before: Walked) -> Walked {
     let at = before.at;
-    let count = before.count;
-    let cursor = before.cursor;
     let kind = lists::byte(block, at);
     let second = lists::place(block, at, 1).end;
     let was_found = lists::byte(block, second);
@@ -329,12 +310,11 @@ fn next_step(store: &[u8], block: &[u8], before: Walked) -> Walked {
     let width = width_of(kind, was_found);
     let key = key_of(block, head, kind, was_found);
     let value = lists::number(block, key.end, width);
-    let outcome = answer(store, cursor, kind, bytes(block, key), value);
-    let after = outcome.cursor;
+    let outcome = answer(store, before.cursor, kind, bytes(block, key), value);
     Walked {
         at: lists::place(block, key.end, width).end,
-        count: count.with(outcome.agreed),
-        cursor: after,
+        count: before.count.with(outcome.agreed),
+        cursor: outcome.cursor,
     }
 }
 
@@ -342,10 +322,8 @@ fn next_step(store: &[u8], block: &[u8], before: Walked) -> Walked {
 pub fn walk(store: &[u8], block: &[u8], from: usize, start: Cursor) -> Walked {
     let n = lists::number(block, from, 2) as usize;
     let mut state = start_walk(block, from, start);
-    let mut i: usize = 0;
-    while i < n {
+    for _ in 0..n {
         state = next_step(store, block, state);
-        i += 1;
     }
     state
 }

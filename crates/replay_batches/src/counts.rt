@@ -1,7 +1,7 @@
 // What the replay counts.
 
 // How many cases, and how many of them came out as the list has them.
-#[derive(Drop)]
+#[derive(Clone, Copy)]
 pub struct Count {
     pub cases: u64,
     pub agreed: u64,
@@ -48,16 +48,16 @@ impl Count {
     }
 
     pub fn with(mut self, agreed: bool) -> Count {
-        self.cases = std::num::wrapping_add_u64(self.cases, 1);
+        self.cases = self.cases.wrapping_add(1);
         if agreed {
-            self.agreed = std::num::wrapping_add_u64(self.agreed, 1);
+            self.agreed = self.agreed.wrapping_add(1);
         }
         self
     }
 
     pub fn plus(mut self, more: Count) -> Count {
-        self.cases = std::num::wrapping_add_u64(self.cases, more.cases);
-        self.agreed = std::num::wrapping_add_u64(self.agreed, more.agreed);
+        self.cases = self.cases.wrapping_add(more.cases);
+        self.agreed = self.agreed.wrapping_add(more.agreed);
         self
     }
 
@@ -68,22 +68,19 @@ impl Count {
 
 impl Batch {
     // Whether all of it came out as the list has it.
-    pub fn is_whole(self) -> bool {
-        let slots = self.slots;
-        let entries = self.entries;
-        let lookups = self.lookups;
-        let steps = self.steps;
-        if !self.agreed {
-            return false;
-        }
-        slots.is_whole() && entries.is_whole() && lookups.is_whole() && steps.is_whole()
+    pub fn is_whole(&self) -> bool {
+        self.agreed
+            && self.slots.is_whole()
+            && self.entries.is_whole()
+            && self.lookups.is_whole()
+            && self.steps.is_whole()
     }
 }
 
 // n, and one more if so.
 fn one_more(n: u64, so: bool) -> u64 {
     if so {
-        return std::num::wrapping_add_u64(n, 1);
+        return n.wrapping_add(1);
     }
     n
 }
@@ -104,48 +101,21 @@ impl Totals {
     }
 
     // With a batch, and its block.
-    pub fn with_batch(self, batch: Batch) -> Totals {
-        let histories = self.histories;
-        let batches = self.batches;
-        let slots = self.slots;
-        let entries = self.entries;
-        let lookups = self.lookups;
-        let steps = self.steps;
-        let more_slots = batch.slots;
-        let more_entries = batch.entries;
-        let more_lookups = batch.lookups;
-        let more_steps = batch.steps;
-        Totals {
-            blocks: one_more(self.blocks, true),
-            full: one_more(self.full, batch.full),
-            named: self.named,
-            histories: histories,
-            batches: batches.with(batch.is_whole()),
-            slots: slots.plus(more_slots),
-            entries: entries.plus(more_entries),
-            lookups: lookups.plus(more_lookups),
-            steps: steps.plus(more_steps),
-        }
+    pub fn with_batch(mut self, batch: &Batch) -> Totals {
+        self.blocks = one_more(self.blocks, true);
+        self.full = one_more(self.full, batch.full);
+        self.batches = self.batches.with(batch.is_whole());
+        self.slots = self.slots.plus(batch.slots);
+        self.entries = self.entries.plus(batch.entries);
+        self.lookups = self.lookups.plus(batch.lookups);
+        self.steps = self.steps.plus(batch.steps);
+        self
     }
 
     // With a history, and the block that opens it.
-    pub fn with_history(self, agreed: bool) -> Totals {
-        let histories = self.histories;
-        let batches = self.batches;
-        let slots = self.slots;
-        let entries = self.entries;
-        let lookups = self.lookups;
-        let steps = self.steps;
-        Totals {
-            blocks: one_more(self.blocks, true),
-            full: self.full,
-            named: self.named,
-            histories: histories.with(agreed),
-            batches: batches,
-            slots: slots,
-            entries: entries,
-            lookups: lookups,
-            steps: steps,
-        }
+    pub fn with_history(mut self, agreed: bool) -> Totals {
+        self.blocks = one_more(self.blocks, true);
+        self.histories = self.histories.with(agreed);
+        self
     }
 }

@@ -25,7 +25,7 @@ fn stands(s: &[u8], at: usize, part: &[u8]) -> bool {
     let span = lists::place(s, at, part.len());
     let start = span.start;
     let end = span.end;
-    check::same(&s[start..end], part)
+    &s[start..end] == part
 }
 
 fn is_used(slot: &[u8], node: &[u8]) -> bool {
@@ -77,30 +77,23 @@ fn compare_header(store: &[u8], block: &[u8], from: usize) -> Compared {
 }
 
 fn compare_slot(store: &[u8], block: &[u8], before: Compared) -> Compared {
-    let count = before.count;
     let span = lists::place(store, before.place, SLOT);
-    let start = span.start;
-    let end = span.end;
-    let slot = same_slot(&store[start..end], block, before.at, count);
-    let after = slot.count;
+    let slot = same_slot(&store[span.start..span.end], block, before.at, before.count);
     Compared {
         at: slot.end,
-        place: end,
-        count: after,
+        place: span.end,
+        count: slot.count,
     }
 }
 
 // The header, then the slots.
 pub fn compare(store: &[u8], block: &[u8], from: usize, slots: usize) -> Section {
     let mut state = compare_header(store, block, from);
-    let mut i: usize = 0;
-    while i < slots {
+    for _ in 0..slots {
         state = compare_slot(store, block, state);
-        i += 1;
     }
-    let count = state.count;
     Section {
-        count: count,
+        count: state.count,
         end: state.at,
     }
 }

@@ -209,8 +209,8 @@ fn check_strict(bytes: &[u8], told: &[u8]) -> Verdict {
     let at = lenient_length(told);
     let start = strict_start(told, at);
     let same_place = reading.at as u64 == lists::number(told, at + 1, 2);
-    let same =
-        same_place && same_answer(number, &reading.node, bytes, &told[start..], Rule::Strict);
+    let same = same_place
+        && same_answer(number, &reading.node, bytes, &told[start..], Rule::Strict);
     Verdict {
         agreed: is_whole(told) && same,
         number,

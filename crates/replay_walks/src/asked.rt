@@ -12,7 +12,7 @@ use lists::{Tally, Verdict};
 const MARK: u8 = 0xA5;
 
 // A question without its key.
-#[derive(Drop)]
+#[derive(Clone, Copy)]
 struct Question {
     kind: usize,
     number: u32,
@@ -30,7 +30,7 @@ struct Outcome {
 // ---- places and keys
 
 // 0 Start, 1 End, 2 At, 3 Seeked.
-fn kind_of(place: Place) -> usize {
+fn kind_of(place: &Place) -> usize {
     match place {
         Place::Start => 0,
         Place::End => 1,
@@ -39,12 +39,12 @@ fn kind_of(place: Place) -> usize {
     }
 }
 
-fn length_of(place: Place) -> usize {
+fn length_of(place: &Place) -> usize {
     match place {
         Place::Start => 0,
         Place::End => 0,
-        Place::At(len) => len,
-        Place::Seeked(len) => len,
+        Place::At(len) => *len,
+        Place::Seeked(len) => *len,
     }
 }
 
@@ -61,7 +61,7 @@ fn place_of(kind: u32, len: usize) -> Place {
     Place::Seeked(len)
 }
 
-fn is_at(place: Place, kind: usize, len: usize) -> bool {
+fn is_at(place: &Place, kind: usize, len: usize) -> bool {
     if kind_of(place) != kind {
         return false;
     }
@@ -74,33 +74,24 @@ fn holds(array: &[u8], key: &[u8]) -> bool {
     if array.len() < len {
         return false;
     }
-    if !check::same(&array[0..len], key) {
+    if &array[..len] != key {
         return false;
     }
     lists::filled(array, len, 0)
 }
 
-fn same_cursor(a: Cursor, b: Cursor) -> bool {
-    let first = a.key;
-    let second = b.key;
-    let here = a.place;
-    let place = b.place;
-    if !is_at(here, kind_of(place), length_of(place)) {
+fn same_cursor(a: &Cursor, b: &Cursor) -> bool {
+    if !is_at(&a.place, kind_of(&b.place), length_of(&b.place)) {
         return false;
     }
-    check::same(&first, &second)
+    a.key.as_slice() == b.key.as_slice()
 }
 
 // A key array with this key in front and marks behind.
 fn marked(key: &[u8]) -> [u8; 288] {
     let mut array = [MARK; 288];
-    let mut i: usize = 0;
-    while i < 288 {
-        if i < key.len() {
-            array[i] = key[i];
-        }
-        i += 1;
-    }
+    let len = key.len().min(288);
+    array[..len].copy_from_slice(&key[..len]);
     array
 }
 
@@ -121,8 +112,8 @@ fn look_up(store: &[u8], key: &[u8], cursor: Cursor, question: Question) -> Outc
     let number = found.number();
     Outcome {
         agreed: number == question.number && value_of(found) == question.value,
-        number: number,
-        cursor: cursor,
+        number,
+        cursor,
     }
 }
 
@@ -144,16 +135,14 @@ fn seek(key: &[u8], cursor: Cursor, question: Question) -> Outcome {
     if number != 0 {
         return Outcome {
             agreed: number == question.number,
-            number: number,
-            cursor: cursor,
+            number,
+            cursor,
         };
     }
     let found = sought.cursor;
-    let place = found.place;
-    let array = found.key;
     Outcome {
-        agreed: question.number == 0 && is_at(place, 3, key.len()) && holds(&array, key),
-        number: number,
+        agreed: question.number == 0 && is_at(&found.place, 3, key.len()) && holds(&found.key, key),
+        number,
         cursor: found,
     }
 }
@@ -169,16 +158,14 @@ fn entry_value(step: Step) -> u64 {
 }
 
 // Whether the cursor is where the step should leave it: as it was, at the entry, or at an end with no key.
-fn moved(before: Cursor, after: Cursor, key: &[u8], question: Question, end: usize) -> bool {
+fn moved(before: &Cursor, after: &Cursor, key: &[u8], question: Question, end: usize) -> bool {
     if question.number != 0 {
         return same_cursor(before, after);
     }
-    let place = after.place;
-    let array = after.key;
     if question.value == 0 {
-        return is_at(place, end, 0) && holds(&array, key);
+        return is_at(&after.place, end, 0) && holds(&after.key, key);
     }
-    is_at(place, 2, key.len()) && holds(&array, key)
+    is_at(&after.place, 2, key.len()) && holds(&after.key, key)
 }
 
 fn stepped(before: Cursor, after: Stepped, key: &[u8], question: Question, end: usize) -> Outcome {
@@ -187,9 +174,9 @@ fn stepped(before: Cursor, after: Stepped, key: &[u8], question: Question, end: 
     let number = step.number();
     let said = number == question.number && entry_value(step) == question.value;
     Outcome {
-        agreed: said && moved(before, cursor, key, question, end),
-        number: number,
-        cursor: cursor,
+        agreed: said && moved(&before, &cursor, key, question, end),
+        number,
+        cursor,
     }
 }
 
@@ -218,24 +205,20 @@ pub fn ask(store: &[u8], block: &[u8], from: usize, tally: Tally) -> Tally {
         key: [0u8; 288],
     };
     let mut at = lists::place(block, from, 2).end;
-    let mut i: usize = 0;
-    while i < questions {
+    for _ in 0..questions {
         let question = Question {
             kind: lists::byte(block, at),
             number: lists::byte(block, at + 1) as u32,
             value: lists::number(block, at + 2, 8),
         };
         let key = lists::part(block, at + 10);
-        let start = key.start;
-        let end = key.end;
-        let outcome = answer(store, &block[start..end], cursor, question);
+        let outcome = answer(store, &block[key.start..key.end], cursor, question);
         counted = counted.with(Verdict {
             agreed: outcome.agreed,
             number: outcome.number,
         });
         cursor = outcome.cursor;
-        at = end;
-        i += 1;
+        at = key.end;
     }
     counted
 }

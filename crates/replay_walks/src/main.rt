@@ -1,80 +1,73 @@
 // Replays the stored lookups and cursor walks on good and damaged stores through crate iter, and writes how many questions
 // were answered as the list has them. The first three stores with another answer are named, by their places from 0 on.
+#![tactic(auto)]
+
 mod asked;
 mod laid;
 
-use libc::STDOUT_FILENO;
 use lists::Tally;
+use std::fs::File;
+use std::io;
+use std::io::{Read, Write};
 
 // Asks the front of the buffer; where it has no such front, no question is counted.
 fn ask_front(room: &[u8], len: usize, block: &[u8], from: usize, tally: Tally) -> Tally {
     if room.len() < len {
         return tally;
     }
-    asked::ask(&room[0..len], block, from, tally)
+    asked::ask(&room[..len], block, from, tally)
 }
 
-fn replay_store(fd: i32, tally: Tally) -> Tally {
-    let mut block = io::large_buffer();
-    let mut room = io::large_buffer();
-    let len = lists::read_block(fd, &mut block);
+fn replay_store<R: Read>(file: &mut R, tally: Tally) -> io::Result<Tally> {
+    let mut block = [0u8; 65536];
+    let mut room = [0u8; 65536];
+    let len = lists::read_block(file, &mut block)?;
     let span = laid::lay_out(&mut room, &block[..len]);
-    ask_front(&room, span.start, &block[..len], span.end, tally)
+    Ok(ask_front(&room, span.start, &block[..len], span.end, tally))
 }
 
-fn say_differing(store: u64) {
-    lists::say(b"differs: store ", store);
-    io::write_all(STDOUT_FILENO, b"\n");
+fn say_differing<W: Write>(out: &mut W, store: u64) -> io::Result<()> {
+    lists::say(out, b"differs: store ", store)?;
+    out.write_all(b"\n")
 }
 
 // How many questions were answered otherwise.
-fn differing(tally: Tally) -> u64 {
-    std::num::wrapping_sub_u64(tally.cases, tally.agreed)
+fn differing(tally: &Tally) -> u64 {
+    tally.cases.wrapping_sub(tally.agreed)
 }
 
-fn replay_stores(fd: i32, stores: usize) -> Tally {
+fn replay_stores<W: Write, R: Read>(out: &mut W, file: &mut R, stores: usize) -> io::Result<Tally> {
     let mut tally = Tally::none();
-    let mut named: usize = 0;
-    let mut i: usize = 0;
-    while i < stores {
-        let before = differing(tally);
-        tally = replay_store(fd, tally);
-        if before != differing(tally) {
-            if named < 3 {
-                say_differing(i as u64);
-                named += 1;
-            }
+    let mut named = 0u8;
+    for i in 0..stores {
+        let before = differing(&tally);
+        tally = replay_store(file, tally)?;
+        if before != differing(&tally) && named < 3 {
+            say_differing(out, i as u64)?;
+            named += 1;
         }
-        i += 1;
     }
-    tally
+    Ok(tally)
 }
 
-fn say_answers(answers: [u64; lists::NUMBERS]) {
-    lists::say(b", answered 0: ", answers[0]);
-    lists::say(b", 1: ", answers[1]);
-    lists::say(b", 4: ", answers[4]);
-    lists::say(b", 8: ", answers[8]);
-    io::write_all(STDOUT_FILENO, b"\n");
+fn say_answers<W: Write>(out: &mut W, answers: &[u64; lists::NUMBERS]) -> io::Result<()> {
+    lists::say(out, b", answered 0: ", answers[0])?;
+    lists::say(out, b", 1: ", answers[1])?;
+    lists::say(out, b", 4: ", answers[4])?;
+    lists::say(out, b", 8: ", answers[8])?;
+    out.write_all(b"\n")
 }
 
-fn replay(fd: i32) {
-    let stores = lists::read_number(fd);
-    let tally = replay_stores(fd, stores);
-    let answers = tally.answers;
-    lists::say(b"stores ", stores as u64);
-    lists::say(b", questions ", tally.cases);
-    lists::say(b" agreed ", tally.agreed);
-    say_answers(answers);
+fn replay<W: Write, R: Read>(out: &mut W, file: &mut R) -> io::Result<()> {
+    let stores = lists::read_number(file)?;
+    let tally = replay_stores(out, file, stores)?;
+    lists::say(out, b"stores ", stores as u64)?;
+    lists::say(out, b", questions ", tally.cases)?;
+    lists::say(out, b" agreed ", tally.agreed)?;
+    say_answers(out, &tally.answers)
 }
 
-fn main() {
-    let path = b"walks.bin";
-    let fd = os::open_read(path);
-    if fd < 0 {
-        os::fail(path);
-        return;
-    }
-    replay(fd);
-    libc::close(fd);
+fn main(rt: HostRuntime) -> io::Result<()> {
+    let mut file = File::open(&rt, "walks.bin")?;
+    replay(&mut io::writer(&rt), &mut file)
 }
