@@ -9,7 +9,7 @@ use word::Order;
 
 // Where a walk along a node turns down: before the first separator, at the first whose key is not below the given one, at the
 // first above it, or behind the last.
-#[derive(Drop)]
+#[derive(Clone, Copy)]
 pub enum Turn {
     First,
     NotBelow,
@@ -18,7 +18,7 @@ pub enum Turn {
 }
 
 // A separator in node bytes: where its key stands, and its value.
-#[derive(Drop)]
+#[derive(Clone, Copy)]
 pub struct Spot {
     pub start: usize,
     pub len: usize,
@@ -28,7 +28,7 @@ pub struct Spot {
 // What the walk sees. `found` is where it turns and whether the separator there has the key, `child` the child there; `here` is
 // the separator there, if it `turned` at one, and `before` the one just before, if there is one. Not `good`: the
 // strict reading refuses the bytes, or their children don't fit.
-#[derive(Drop)]
+#[derive(Clone, Copy)]
 pub struct Sight {
     pub good: bool,
     pub turned: bool,

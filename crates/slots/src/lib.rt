@@ -38,7 +38,7 @@ const FIRST_FREE_AT: usize = 16;
 
 const ZEROS_AT: usize = 20;
 
-#[derive(Drop)]
+#[derive(Clone, Copy)]
 pub enum Formatted {
     Done,
     Refused,
@@ -288,7 +288,7 @@ pub fn insert_bytes(
     value: Value,
     child: Child,
 )
-    ensures { store.new ≡ inserted_bytes store.old slot.0 place (record { key = key.old; val = value.0 }) child.0 }
+    ensures { store.new ≡ inserted_bytes store.old slot.0 place (record { key = key.now; val = value.0 }) child.0 }
 {
     if !is_slot(store, slot.0 as u64) {
         return;
