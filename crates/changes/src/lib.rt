@@ -1,4 +1,6 @@
 // A batch's records: where each stands in the lent bytes, and the refusals of a batch that isn't one.
+#![tactic(auto)]
+
 ghost use Rattle.std.specs.Prelude.{◌≡◌, not, ◌||◌, eqb};
 ghost use Rattle.word.specs.Pick.{pick};
 ghost use Rattle.word.specs.Part.{part};

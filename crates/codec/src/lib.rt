@@ -1,4 +1,6 @@
 // Node bytes read and written.
+#![tactic(auto)]
+
 ghost use Rattle.std.specs.Prelude.{◌≡◌, ◌&&◌, [], ◌+◌, ◌≤◌, leb, length};
 ghost use Rattle.word.specs.At.{copy_at};
 ghost use Rattle.word.specs.Part.{part};

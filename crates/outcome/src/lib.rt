@@ -1,4 +1,6 @@
 // What comes of a change below a node; specs/ has the mirrors, which say what each change makes of a store's bytes.
+#![tactic(auto)]
+
 ghost use Rattle.std.specs.Prelude.{◌≡◌};
 ghost use Rattle.outcome.specs.Outcome.{outcome_of, is_good, is_plain};
 

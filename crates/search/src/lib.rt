@@ -1,4 +1,6 @@
 // A walk along node bytes in one reading: the child where it turns down and the separators beside it. No places are built.
+#![tactic(auto)]
+
 ghost use Rattle.std.specs.Prelude.{◌≡◌, true, false, ◌<◌};
 ghost use Rattle.search.specs.Search.{bar_of, rank_of, passes, meets, misfits, empty_sight, behind_spot, at_spot, Saw, SeesLast, GoesOn};
 

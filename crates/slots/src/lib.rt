@@ -1,5 +1,7 @@
 // The store: a header, slots of one size, and a chain of the free ones, all in lent bytes. All is total: what isn't a slot
 // is answered so and changes nothing.
+#![tactic(auto)]
+
 ghost use Rattle.std.specs.Prelude.{◌≡◌, ◌-◌, length};
 ghost use Rattle.codec.specs.Layout.{places_of};
 ghost use Rattle.slots.specs.Layout.{start, root_of, depth_of, count_of, first_of, is_store};
