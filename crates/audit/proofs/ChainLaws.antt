@@ -1,6 +1,6 @@
 -- The free chain: what is walked is the chain of the bytes, it has each slot once, and with as many reached slots as are missing it
 -- fills the store. Assumes nothing.
-use mathlib.Core.Path.{◌≡◌, refl, sym, ap, ◌∙◌}
+use mathlib.Core.Path.{◌≡◌, refl, sym, ap, subst, ◌∙◌}
 use mathlib.Core.List.{List, [], ◌∷◌}
 use mathlib.Core.Bool.{Bool, true, ◌&&◌}
 use mathlib.Core.Option.{Option, none, some}
@@ -31,7 +31,12 @@ inside_lem n x p q = rw (le-leb 1 x p, le-leb x n q)
 -- one more, that was not there
 pub within_cons : (n x : ℕ) (us : List ℕ) → 1 ≤ x → x ≤ n → occurs x us ≡ 0 → Within n us → Within n (x ∷ us)
 within_cons n x us lo hi z h y =
-    by_bool (eqb y x) (λ e. let w = eqb-true y x e in rw (e, w, z, inside_lem n x lo hi) (omega arith)) (λ e. rw e (omega (arith, h y)))
+    by_bool (eqb y x)
+    (λ e.
+    let w = eqb-true y x e in
+    let f : eqb x x ≡ true = rw w at e in
+    subst (λ (v : ℕ). occurs v (x ∷ us) ≤ in_store n v) (sym w) (rw (f, z, inside_lem n x lo hi) (omega arith)))
+    (λ e. rw e (omega (arith, h y)))
 
 abbrev pub AllIn : ℕ → List ℕ → Type 0
 AllIn n [] = Unit {0}
@@ -134,7 +139,7 @@ module _ (n : ℕ) (s : List ℕ) (is_free : ℕ → Bool) where
       next_of_lem : (x y : ℕ) → is_slot s x ≡ true → slot_at s x ≡ idle y → y < 2 ^ 32 → next_free s x ≡ y
       next_of_lem x y is e l = unfold next_free in next_is_lem s x y is e l
 
--- ---- as many as there are slots: all_lem of them
+-- ---- as many as there are slots: all of them
 
 pub all_there : (n : ℕ) (l : List ℕ) → Within n l → length l ≡ n → (x : ℕ) → occurs x l ≡ in_store n x
 all_there n l h e x = by_bool (leb 1 x && leb x n)
@@ -164,7 +169,7 @@ pub total_most : (n : ℕ) (l : List ℕ) → total n l ≤ length l
 total_most n [] = omega (arith, total_none n)
 total_most n (y ∷ l) = omega (arith, total_cons n y l, total_alone n y, total_most n l)
 
--- all_lem slots of a store, each once, are as many as it has
+-- all slots of a store, each once, are as many as it has
 pub all_length : (n : ℕ) (l : List ℕ) → ((x : ℕ) → occurs x l ≡ in_store n x) → length l ≡ n
 all_length n l h =
     let lo = total_most n l in

@@ -1,6 +1,6 @@
 -- Mark words: testing a bit, setting a clear one, counting the ones, and that they depend on which slots are marked only. Assumes
 -- nothing.
-use mathlib.Core.Path.{◌≡◌, refl, sym, ap, ◌∙◌}
+use mathlib.Core.Path.{◌≡◌, refl, sym, ap, subst, ◌∙◌}
 use mathlib.Core.List.{List, [], ◌∷◌}
 use mathlib.Core.Bool.{Bool, true, false}
 use Prim.Native.Nat.{ℕ, zero, suc, ◌+◌, ◌*◌, ◌-◌, ◌/◌, ◌%◌, ◌^◌, ◌≤◌, ◌<◌}
@@ -85,13 +85,13 @@ module _ (us : List ℕ) where
       let w = bits_outside x (suc x) k (λ i l q. omega arith) in
       let a = among_here us x in
       let c = among_absent us x v in
-      rw e (omega arith)
+      subst (λ (y : ℕ). bits_from (y ∷ us) x (suc k) ≡ bits_from us x (suc k) + 2 ^ 0) (sym e) (omega arith)
   bits_set x (suc k) (suc b) h z =
       let e : x + suc b ≡ suc x + b = omega arith in
       let v = rw e at z in
       let ih = bits_set (suc x) k b (omega arith) v in
       let o = among_other us x (suc x + b) (λ q. omega arith) in
-      rw (e, pow-suc 2 b) (omega arith)
+      subst (λ (y : ℕ). bits_from (y ∷ us) x (suc k) ≡ bits_from us x (suc k) + 2 ^ suc b) (sym e) (rw (pow-suc 2 b) (omega arith))
 
   -- ---- many words
 
@@ -122,12 +122,12 @@ module _ (us : List ℕ) where
       let e : x + 64 * 0 ≡ x = omega arith in
       let f = words_outside (x + b) (x + 64) k (omega arith) in
       let g = bits_set x 64 b l (rw e at z) in
-      rw e (λ j. g j ∷ f j)
+      subst (λ (y : ℕ). words_from ((y + b) ∷ us) x (suc k) ≡ set (words_from us x (suc k)) zero (bits_from us y 64 + 2 ^ b)) (sym e) (λ j. g j ∷ f j)
   words_set x (suc k) (suc i) b h l z =
       let e : x + 64 * suc i ≡ x + 64 + 64 * i = omega arith in
       let f = bits_outside (x + 64 + 64 * i + b) x 64 (λ j m q. omega arith) in
       let g = words_set (x + 64) k i b (omega arith) l (rw e at z) in
-      rw e (λ j. f j ∷ g j)
+      subst (λ (y : ℕ). words_from ((y + b) ∷ us) x (suc k) ≡ set (words_from us x (suc k)) (suc i) (bits_from us y 64 + 2 ^ b)) (sym e) (λ j. f j ∷ g j)
 
 -- ---- the words of a store's slots
 

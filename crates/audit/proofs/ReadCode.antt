@@ -1,4 +1,4 @@
--- How the code reads a node_lem (its places in standard form, zeros behind_lem it) is how the walk reads it. Assumes nothing.
+-- How the code reads a node (its places in standard form, zeros behind it) is how the walk reads it. Assumes nothing.
 use mathlib.Core.Path.{◌≡◌, refl, sym, ap, ◌∙◌}
 use mathlib.Core.List.{List, [], ◌∷◌, ◌++◌, map, append_assoc, append-nil}
 use mathlib.Core.Bool.{Bool, true, false, cond, ◌&&◌}
@@ -43,7 +43,7 @@ use Rattle.audit.specs.Code.{has_zeros, steps_at}
 pub no_way : {A : Type 0} → true ≡ false → A
 no_way e = let k : ◌≡◌ {A = ℕ} 0 1 = cc in absurd (omega arith)
 
--- ---- the separators of a node_lem, by its places in the store
+-- ---- the separators of a node, by its places in the store
 
 module _ (s : List ℕ) (from n : ℕ) (b : List ℕ) (here : b ≡ part s from n) (fits : from + n ≤ length s) where
   key_there : (a m : ℕ) → a + m ≤ length b → part s (from + a) m ≡ part b a m
@@ -96,13 +96,13 @@ module _ (s : List ℕ) (x : ℕ) where
   unfolding places_in places_of layout padded
   first_is = refl
 
--- ---- a node_lem whose bytes are in standard form
+-- ---- a node whose bytes are in standard form
 
 whole_accepted : (e : Ending) → is_no_byte_left e ≡ true → is_accepted e ≡ true
 whole_accepted e h = by_bool (is_accepted e) (λ a. a) (λ a. no_way (sym h ∙ refused_not_whole e a))
 
 module _ (s : List ℕ) (bs : Bytes s) (x : ℕ) where
-  -- a slot that holds a node_lem, and where its bytes stand
+  -- a slot that holds a node, and where its bytes stand
   record Held : Type 0 where
     least : 1 ≤ x
     within : start x + slot_size ≤ length s
@@ -127,7 +127,7 @@ module _ (s : List ℕ) (bs : Bytes s) (x : ℕ) where
       parts : holds_node s x ≡ true → (is_slot s x ≡ true) × ((leb least_node (length_at s x) && leb (length_at s x) most_node) ≡ true)
       parts = unfold holds_node in (λ h. and_both (is_slot s x) (leb least_node (length_at s x) && leb (length_at s x) most_node) h)
 
-  -- a slot's bytes are its node's as written, if those are the node's and zeros stand behind_lem
+  -- a slot's bytes are its node's as written, if those are the node's and zeros stand behind
   module _ (o : Held) (same : bytes_in s x ≡ encode (first_in s x) (rest_in s x)) where
     abbrev l : ℕ
     l = length_at s x

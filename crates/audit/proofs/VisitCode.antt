@@ -75,7 +75,7 @@ module _ (s : List ℕ) (bs : Bytes s) (h least x : ℕ) (w : SeenWords) (there 
   unfolding visit_in
   opens = ap (λ (d : ℕ). visit (in_words (words_for (count_of s))) (read_written s) d least x w) (one_down h there)
 
-  -- what follows in a node that may be walked_lem into
+  -- what follows in a node that may be walked into
   abbrev inside : Option SeenWords
   inside = bind (visit_in s (h - 1) 4 (first_in s x) (record { marks = marked w.marks x; last = w.last })) (rest_from s (h - 1) (start x + 4) (places_in s x) 0 (places_in s x).count)
 
@@ -115,7 +115,7 @@ module _ (s : List ℕ) (bs : Bytes s) (h least x : ℕ) (w : SeenWords) (there 
       go true q = sym (pick_t _ _ q)
       go false q = sym (pick_f _ _ q)
 
-  -- what the code knows when it has tried to walk into the node: its slot, its places, and the answer_lem of `enter`
+  -- what the code knows when it has tried to walk into the node: its slot, its places, and the answer of `enter`
   module _ {y : ℕ} {p : Places} {r : Bool} {vs : List ℕ} (slot : y ≡ slot_of s x) (places : p ≡ places_of (raw_in s x))
       (tried : (r ≡ enters s y p.standard p.count least w.marks) × (vs ≡ pick (enters s y p.standard p.count least w.marks) (marked w.marks y) w.marks))
     where
@@ -153,7 +153,7 @@ module _ (s : List ℕ) (bs : Bytes s) (h least x : ℕ) (w : SeenWords) (there 
         pub keys_fit : {at : ℕ} → at ≡ start y → (i : ℕ) → at + 4 + get_or p.starts i 0 + get_or p.lens i 0 ≤ length s
         keys_fit a i = rw (from_is a, in_places) (key_fits s bs x standard i)
 
-        -- the node's first child was walked_lem
+        -- the node's first child was walked
         pub visit_entered : {at : ℕ} {o : Option SeenWords} → at ≡ start y → o ≡ visit_in s (h - 1) 4 (get_or p.children 0 (child_of 0)).0 (record { marks = vs; last = w.last })
             → visit_in s h least x w ≡ bind o (rest_from s (h - 1) (at + 4) p 0 p.count)
         visit_entered {at} {o} a q =

@@ -1,4 +1,4 @@
--- The walk from the root passes_lem exactly on a tree that the bytes hold, in shape, with rising keys and no slot twice; marks are kept
+-- The walk from the root passes exactly on a tree that the bytes hold, in shape, with rising keys and no slot twice; marks are kept
 -- as a list of slots. Assumes nothing.
 use mathlib.Core.Path.{◌≡◌, refl, sym, ap, subst, ◌∙◌}
 use mathlib.Core.List.{List, [], ◌∷◌, ◌++◌}

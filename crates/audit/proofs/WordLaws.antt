@@ -1,4 +1,4 @@
--- The walk that keeps its marks in words is the walk that keeps them as a list, told_lem in words. Assumes nothing.
+-- The walk that keeps its marks in words is the walk that keeps them as a list, told in words. Assumes nothing.
 use mathlib.Core.Path.{◌≡◌, refl, sym, ap, ◌∙◌}
 use mathlib.Core.List.{List, [], ◌∷◌}
 use mathlib.Core.Bool.{Bool, true, false, cond, ◌&&◌}

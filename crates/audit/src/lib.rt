@@ -11,7 +11,7 @@ ghost use Rattle.audit.specs.Code.{has_zeros, enters, is_rising, is_greater, key
 use node::{Child, Slot};
 use word::Order;
 
-#[derive(Drop)]
+#[derive(Clone, Copy)]
 pub enum Verdict {
     // With how many slots are reached.
     Passed(usize),
@@ -21,7 +21,7 @@ pub enum Verdict {
 }
 
 // The last key as a place in the store, if there is one yet.
-#[derive(Drop)]
+#[derive(Clone, Copy)]
 pub struct Last {
     pub keyed: bool,
     pub start: usize,
@@ -29,14 +29,14 @@ pub struct Last {
 }
 
 // How far the walk came: whether all was right, and the last key.
-#[derive(Drop)]
+#[derive(Clone, Copy)]
 pub struct Seen {
     pub right: bool,
     pub last: Last,
 }
 
 // The free chain's length, if it is right.
-#[derive(Drop)]
+#[derive(Clone, Copy)]
 pub struct Chain {
     pub right: bool,
     pub len: usize,

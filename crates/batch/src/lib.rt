@@ -10,7 +10,7 @@ ghost use Rattle.batch.specs.Code.{refused_with, of_checked, batched_of};
 use btree::records::Acted;
 use changes::Checked;
 
-#[derive(Drop)]
+#[derive(Clone, Copy)]
 pub enum Answer {
     Done,
     NotStore,
@@ -27,7 +27,7 @@ pub enum Answer {
 }
 
 // "An answer has the number and records applied".
-#[derive(Drop)]
+#[derive(Clone, Copy)]
 pub struct Batched {
     pub answer: Answer,
     pub applied: usize,

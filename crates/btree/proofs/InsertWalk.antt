@@ -133,7 +133,7 @@ module _ (n root depth : ℕ) (small : n < 2 ^ 32) (e : Sep ℕ) (fe : Fit e) wh
     pub apart : Apart n d t fs
     pub room : (need ℕ e.key d t).cost ≤ length fs
 
-  -- and what after_lem
+  -- and what after
   abbrev pub SetDone : (d : ℕ) (s fs : List ℕ) (t : Kid ℕ d) → Type 0
   SetDone d s fs t = Done n root depth (walk e.key d t) (label d t) d s fs (set ℕ e d t fs) (insert_m e d s (label d t))
 

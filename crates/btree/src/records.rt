@@ -20,7 +20,7 @@ use outcome::{Came, Needed, Outcome};
 use removal::shrink;
 
 // What came of a run.
-#[derive(Drop)]
+#[derive(Clone, Copy)]
 pub enum Acted {
     Done,
     Bad,
@@ -28,7 +28,7 @@ pub enum Acted {
 }
 
 // A run, with how many records it has and the place behind it.
-#[derive(Drop)]
+#[derive(Clone, Copy)]
 pub struct Ran {
     pub acted: Acted,
     pub size: u32,
@@ -36,7 +36,7 @@ pub struct Ran {
 }
 
 // All runs: how they ended, and how many records the finished ones have.
-#[derive(Drop)]
+#[derive(Clone, Copy)]
 pub struct Ended {
     pub acted: Acted,
     pub applied: usize,

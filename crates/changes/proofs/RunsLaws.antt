@@ -1,6 +1,6 @@
--- In records that are found fine, `run_at` is the first_lem run of what is left: "a run of equal keys acts as its last record".
+-- In records that are found fine, `run_at` is the first run of what is left: "a run of equal keys acts as its last record".
 -- Assumes nothing.
-use mathlib.Core.Path.{◌≡◌, refl, sym, ap, ◌∙◌}
+use mathlib.Core.Path.{◌≡◌, refl, sym, ap, subst, ◌∙◌}
 use mathlib.Core.List.{List, [], ◌∷◌}
 use mathlib.Core.Bool.{Bool, true, false}
 use Prim.Native.Nat.{ℕ, zero, suc, ◌+◌, ◌-◌, ◌≤◌, ◌<◌}
@@ -8,7 +8,7 @@ use lib.ListN.{length}
 use lib.Dec.{compare_is_eq}
 use native.Mathlib.Omega.{arith}
 use Rattle.word.specs.Pick.{pick_t, pick_f, by_test}
-use Rattle.word.specs.Key.{Key, cmp}
+use Rattle.word.specs.Key.{Key, Lt, cmp}
 use Rattle.word.proofs.KeyOrder.{cmp_eq, cmp_refl}
 use Rattle.tree.specs.Batch as batch
 use Rattle.tree.specs.Batch.{Rec, with_run, runs_of}
@@ -99,19 +99,27 @@ module _ (s : List ℕ) where
         rw (← run_goes m key last size e)
         (record { more = suc f.more; count = omega arith; few = omega arith; sound = f.sound; behind = f.behind; same = f.same; rest = rw z f.rest; runs = rw z runs })
 
-  first_lem : (k m : ℕ) (key : Key) (last size : ℕ) → k ≤ m → Sound s last → key_at s last ≡ key → Chain s k (next_at s last) (key_at s last) → First k key last size (run_from s m key last size)
-  first_lem k m key last size h sound own (ended e) =
-      let none = records_ended s k (next_at s last) e in
-      first_last key last size sound own k m (ended e) (has_none (next_at s last) key e) (rw none)
-  first_lem (suc k) m key last size h sound own (more g n c) =
+  first_at : (k m : ℕ) (key : Key) (last size at : ℕ) (prev : Key) → at ≡ next_at s last → prev ≡ key_at s last → k ≤ m → Sound s last → key_at s last ≡ key → Chain s k at prev
+      → First k key last size (run_from s m key last size)
+  first_at k m key last size at prev p q h sound own (ended e) =
+      let here : next_at s last ≡ length s = sym p ∙ e in
+      let none = records_ended s k (next_at s last) here in
+      first_last key last size sound own k m (ended here) (has_none (next_at s last) key here) (rw none)
+  first_at (suc k) m key last size at prev p q h sound own (more g₀ n₀ c₀) =
+      let g = subst (λ (x : ℕ). Sound s x) p g₀ in
+      let c = subst (λ (x : ℕ). Chain s k (next_at s x) (key_at s x)) p c₀ in
+      let n = subst (λ (x : Key). Lt (key_at s (next_at s last)) x → ⊥) (q ∙ own) (subst (λ (x : ℕ). Lt (key_at s x) prev → ⊥) p n₀) in
       by_bool (has_key s (next_at s last) key)
       (λ e.
       let z : m ≡ suc (m - 1) = omega arith in
-      rw z (first_next key last size sound own k (m - 1) g e (first_lem k (m - 1) key (next_at s last) (suc size) (omega arith) g (has_equal (next_at s last) key e) c)))
+      rw z (first_next key last size sound own k (m - 1) g e (first_at k (m - 1) key (next_at s last) (suc size) _ _ refl refl (omega arith) g (has_equal (next_at s last) key e) c)))
       (λ e.
       let rest : List (batch.Run ℕ) = runs_of (records_from s k (next_at s (next_at s last))) in
       let other = with_run_other (rec_at s last) (key_at s (next_at s last)) (with_run (rec_at s (next_at s last)) rest) (with_run_key (rec_at s (next_at s last)) rest) (λ q. has_other (next_at s last) key g e (sym own ∙ q)) in
-      first_last key last size sound own (suc k) m (more g (rw own at n) c) e (rw (records_more s k (next_at s last) g) other))
+      first_last key last size sound own (suc k) m (more g n c) e (rw (records_more s k (next_at s last) g) other))
+
+  first_lem : (k m : ℕ) (key : Key) (last size : ℕ) → k ≤ m → Sound s last → key_at s last ≡ key → Chain s k (next_at s last) (key_at s last) → First k key last size (run_from s m key last size)
+  first_lem k m key last size h sound own c = first_at k m key last size (next_at s last) (key_at s last) refl refl h sound own c
 
   -- ---- the run at a place
 

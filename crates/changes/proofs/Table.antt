@@ -16,7 +16,7 @@ use Rattle.changes.specs.Records.{most_records, checked_number, kind_at, len_at,
 use Rattle.changes.proofs.RecordLaws.{impossible}
 use Rattle.changes.proofs.CheckLaws.{check_enough}
 
--- bytes_lem, and the number that they get
+-- bytes, and the number that they get
 abbrev pub Case : Type 0
 Case = List ℕ × ℕ
 
@@ -51,7 +51,7 @@ unfolding all_hold
 all_hold_lem [] e = tt
 all_hold_lem (c ∷ cs) e = let t = both (holds_lem c) (all_hold cs) e in (case_holds c t.0, all_hold_lem cs t.1)
 
--- a record's head, right or wrong, before its key and what follows: the kind, the two bytes_lem of the length, and the value's lowest
+-- a record's head, right or wrong, before its key and what follows: the kind, the two bytes of the length, and the value's lowest
 bytes_lem : ℕ → ℕ → ℕ → ℕ → List ℕ → List ℕ
 bytes_lem kind low high value rest = kind ∷ low ∷ high ∷ value ∷ 0 ∷ 0 ∷ 0 ∷ 0 ∷ 0 ∷ 0 ∷ 0 ∷ rest
 
@@ -63,7 +63,7 @@ refusals =
     ∷ (bytes_lem 1 1 0 5 (97 ∷ bytes_lem 2 1 0 0 (97 ∷ [])), 0)
     ∷ (bytes_lem 2 0 0 0 (bytes_lem 1 1 0 5 (97 ∷ bytes_lem 2 2 0 0 (97 ∷ 0 ∷ []))), 0)
     ∷ (bytes_lem 1 32 1 5 (replicate 288 7), 0)
-    -- "3 for under 11 bytes_lem or kind"
+    -- "3 for under 11 bytes or kind"
     ∷ (1 ∷ [], 3)
     ∷ (1 ∷ 0 ∷ 0 ∷ 5 ∷ 0 ∷ 0 ∷ 0 ∷ 0 ∷ 0 ∷ 0 ∷ [], 3)
     ∷ (bytes_lem 0 0 0 5 [], 3)

@@ -1,4 +1,6 @@
 // A batch's records: where each stands in the lent bytes, and the refusals of a batch that isn't one.
+#![tactic(auto)]
+
 ghost use Rattle.std.specs.Prelude.{◌≡◌, not, ◌||◌, eqb};
 ghost use Rattle.word.specs.Pick.{pick};
 ghost use Rattle.word.specs.Part.{part};
@@ -7,7 +9,7 @@ ghost use Rattle.changes.specs.RunAt.{has_key, run_at};
 ghost use Rattle.changes.specs.Mirror.{flaw_at, is_less, is_equal};
 
 // What the records of a batch are found to be.
-#[derive(Drop)]
+#[derive(Clone, Copy)]
 pub enum Checked {
     Fine,
     Short,
@@ -18,7 +20,7 @@ pub enum Checked {
 }
 
 // A record: a set of a value or a dereference, where its key stands, and the place behind it.
-#[derive(Drop)]
+#[derive(Clone, Copy)]
 pub struct Change {
     pub set: bool,
     pub value: u64,
@@ -28,7 +30,7 @@ pub struct Change {
 }
 
 // A run of equal keys: where its last record stands, the place behind it, and how many records it has.
-#[derive(Drop)]
+#[derive(Clone, Copy)]
 pub struct Run {
     pub last: usize,
     pub next: usize,

@@ -21,7 +21,7 @@ use Rattle.codec.specs.Strict.{strict_number, is_low, strict_end, strict_of, str
 use Rattle.codec.proofs.Theorems.{Numbered, decoded_node, read_decodes, standard_flagged}
 use Rattle.codec.proofs.StrictLaws.{strict_flag, strict_standard, strict_lenient, strict_alike, strict_18, strict_19, strict_20, strict_decodes, strict_not_0}
 
--- r: what a strict reading of the bytes s answered_lem
+-- r: what a strict reading of the bytes s answered
 module _ (s : List ℕ) (b : Bytes s) {r : StrictReading} (called : r ≡ strict_reading s) where
   abbrev number : ℕ
   number = strict_number r.ending
@@ -77,7 +77,7 @@ module _ (s : List ℕ) (b : Bytes s) {r : StrictReading} (called : r ≡ strict
   pub answered_18 : number ≡ 18 → (is_low s r.at ≡ true) × (Standard s → ⊥)
   answered_18 e = let h = strict_18 s (refused_as 18 e (omega arith)) in (rw place_is h.stands, h.sloppy)
 
-  -- l: what the lenient reading of the same bytes answered_lem
+  -- l: what the lenient reading of the same bytes answered
   module _ {l : Reading} (lenient : l ≡ reading_of s) where
     leniently : ◌≡◌ {A = Numbered} (record { number = ending_number l.ending; node = l.node }) (decoded_node (decode s))
     leniently = ap (λ (q : Reading). record { number = ending_number q.ending; node = q.node }) lenient ∙ read_decodes s

@@ -1,4 +1,6 @@
 // Node bytes read and written.
+#![tactic(auto)]
+
 ghost use Rattle.std.specs.Prelude.{◌≡◌, ◌&&◌, [], ◌+◌, ◌≤◌, leb, length};
 ghost use Rattle.word.specs.At.{copy_at};
 ghost use Rattle.word.specs.Part.{part};
@@ -13,7 +15,7 @@ use node::{Child, Index, Node, Value};
 pub mod position;
 
 // How a reading ended: the first three are accepted.
-#[derive(Drop)]
+#[derive(Clone, Copy)]
 pub enum Ending {
     NoByteLeft,
     BytesIgnored,
@@ -26,7 +28,7 @@ pub enum Ending {
 }
 
 // What stands where a separator may.
-#[derive(Drop)]
+#[derive(Clone, Copy)]
 pub enum Head {
     Separator {
         value: Value,
@@ -38,7 +40,7 @@ pub enum Head {
 }
 
 // Node bytes read without copying a key: the key of separator i stands in them from starts[i] on.
-#[derive(Drop)]
+#[derive(Clone, Copy)]
 pub struct Places {
     pub ending: Ending,
     pub standard: bool,
@@ -50,7 +52,7 @@ pub struct Places {
 }
 
 // How a strict reading ended: at a long size below 255, or as a lenient one, whose first ending alone is accepted.
-#[derive(Drop)]
+#[derive(Clone, Copy)]
 pub enum Strict {
     LowSize,
     EndsIn(Ending),
@@ -58,26 +60,26 @@ pub enum Strict {
 
 // How a strict reading ended, and where the child or the separator begins that it refuses, or the first byte too many; where it
 // refuses nothing, the end of the bytes.
-#[derive(Drop)]
+#[derive(Clone, Copy)]
 pub struct Stopped {
     pub ending: Strict,
     pub at: usize,
 }
 
-#[derive(Drop)]
+#[derive(Clone, Copy)]
 pub struct StrictReading {
     pub ending: Strict,
     pub at: usize,
     pub node: Node,
 }
 
-#[derive(Drop)]
+#[derive(Clone, Copy)]
 pub struct Reading {
     pub ending: Ending,
     pub node: Node,
 }
 
-#[derive(Drop)]
+#[derive(Clone, Copy)]
 pub enum Written {
     Done(usize),
     TooMany,
@@ -635,7 +637,7 @@ pub fn splice(
     value: Value,
     child: Child,
 ) -> usize
-    ensures { (result ≡ (splice_in dst.old len at (record { key = key.old; val = value.0 }) child.0).len) × (dst.new ≡ (splice_in dst.old len at (record { key = key.old; val = value.0 }) child.0).bytes) }
+    ensures { (result ≡ (splice_in dst.old len at (record { key = key.now; val = value.0 }) child.0).len) × (dst.new ≡ (splice_in dst.old len at (record { key = key.now; val = value.0 }) child.0).bytes) }
 {
     let size = key.len();
     if 288 < size {

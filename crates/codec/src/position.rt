@@ -6,7 +6,7 @@ use node::Index;
 use word::Order;
 
 // Where a key stands among a node's, or where it belongs.
-#[derive(Drop)]
+#[derive(Clone, Copy)]
 pub struct Found {
     pub index: Index,
     pub at: bool,

@@ -80,7 +80,7 @@ fn split_full(
     value: Value,
     right: Child,
 ) -> Outcome
-    ensures { SplitsFull store.old child.0 i.0 (record { key = key.old; val = value.0 }) right.0 result store.new }
+    ensures { SplitsFull store.old child.0 i.0 (record { key = key.now; val = value.0 }) right.0 result store.new }
 {
     let reading = codec::read_standard(slots::node_bytes(store, child));
     let slot = slots::slot_of(store, child);
@@ -111,7 +111,7 @@ fn take_in(
     value: Value,
     right: Child,
 ) -> Outcome
-    ensures { TakesIn store.old child.0 count i.0 place (record { key = key.old; val = value.0 }) right.0 result store.new }
+    ensures { TakesIn store.old child.0 count i.0 place (record { key = key.now; val = value.0 }) right.0 result store.new }
 {
     if 7 < count {
         return split_full(store, child, i, key, value, right);
@@ -156,7 +156,7 @@ pub fn insert_node(
 
 // The same in a leaf, for a key that is lent: no separator is made of it where it goes in among the bytes.
 pub fn insert_leaf(store: &mut [u8], child: Child, i: Index, key: &[u8], value: Value) -> Outcome
-    ensures { (0 < value.0) → length key.old ≤ longest_key → Makes (insert_node_m 0 store.old child.0 i.0 (record { key = key.old; val = value.0 }) 0) result store.new }
+    ensures { (0 < value.0) → length key.now ≤ longest_key → Makes (insert_node_m 0 store.old child.0 i.0 (record { key = key.now; val = value.0 }) 0) result store.new }
 {
     let places = slots::read_places(store, child);
     if !takes(places, 0, i, key.len()) {

@@ -241,7 +241,7 @@ module _ (s : List ℕ) (d : ℕ) (x : Child) where
   abbrev here : List ℕ
   here = bytes_in s x.0
 
-  -- a node that is read_lem
+  -- a node that is read
   record Read : Type 0 where
     places : places_at d s x.0 ≡ places_of here
     node : read_node_at d s x.0 ≡ some (node_in s x.0)
@@ -256,7 +256,7 @@ module _ (s : List ℕ) (d : ℕ) (x : Child) where
   not_read e = refused_at s x.0 d (ap is_accepted (sym (ending_at s x.0 d)) ∙ e)
 
 module _ (s : List ℕ) (t : Turn) (a : Aim) (k : Key) where
-  -- the walk in a node that is read_lem, and in one that is not
+  -- the walk in a node that is read, and in one that is not
   down_read : (d : ℕ) (x : Child) (c : Candidate) → is_accepted (places_at d s x.0).ending ≡ true
       → walk_down t a k (suc d) s x c ≡ turned t a k (walk_down t a k d s) (places_of (bytes_in s x.0)) x c (turn_at t (places_of (bytes_in s x.0)) (bytes_in s x.0) k)
   unfolding walk_down
@@ -429,7 +429,7 @@ forward_arm e q = rw e q
 pub backward_arm : {p q : Place} {t : Turn} → p ≡ q → t ≡ turn_backward q → t ≡ turn_backward p
 backward_arm e q = rw e q
 
--- ---- what is seen in a node that is read_lem
+-- ---- what is seen in a node that is read
 
 module _ (s : List ℕ) (d : ℕ) (x : Child) (t : Turn) (k : Key) {v : Sight} (saw : SawAt (in_node t) d s x.0 k v) where
   abbrev places : Places
@@ -498,7 +498,7 @@ module _ (t : Turn) (a : Aim) (k : Key) (s : List ℕ) where
     down_1 h = sym (left ∙ down_bad s t a k d x c (sym (is_seen s d x t k saw).good_is ∙ not-true v.good h))
 
     module _ (h : not v.good ≡ false) {e : Bool} (ends : e ≡ stops_at a v.found.at) where
-      -- the node is read_lem, with the function's own facts
+      -- the node is read, with the function's own facts
       node_walk : whole ≡ turned t a k (walk_down t a k d s) at_depth x c v.found
       unfolding walk_down
       node_walk =
@@ -587,7 +587,7 @@ pub empty_key : replicate {A = ℕ} 288 0 ≡ padded 288 0 []
 unfolding padded
 empty_key = refl
 
--- a copy out of a node that was read_lem is one out of the bytes there
+-- a copy out of a node that was read is one out of the bytes there
 copied_raw : (s : List ℕ) (x start len : ℕ) (d : List ℕ) → start + len ≤ length (bytes_in s x) → copy_at d 0 (raw_in s x) start len ≡ copy_at d 0 (bytes_in s x) start len
 unfolding bytes_in
 copied_raw s x start len d =

@@ -9,7 +9,7 @@ use node::{Child, Value};
 use search::Sight;
 
 // What a lookup answers.
-#[derive(Drop)]
+#[derive(Clone, Copy)]
 pub enum LookedUp {
     Found(Value),
     Absent,
@@ -19,7 +19,7 @@ pub enum LookedUp {
 }
 
 // Where a cursor is; a length names the front of its key array.
-#[derive(Drop)]
+#[derive(Clone, Copy)]
 pub enum Place {
     Start,
     End,
@@ -27,14 +27,14 @@ pub enum Place {
     Seeked(usize),
 }
 
-#[derive(Drop)]
+#[derive(Clone, Copy)]
 pub struct Cursor {
     pub place: Place,
     pub key: [u8; 288],
 }
 
 // What a step answers: an entry's value, its key being the cursor's; none; or a refusal.
-#[derive(Drop)]
+#[derive(Clone, Copy)]
 pub enum Step {
     Entry(Value),
     Nothing,
@@ -43,14 +43,14 @@ pub enum Step {
     Bad,
 }
 
-#[derive(Drop)]
+#[derive(Clone, Copy)]
 pub struct Stepped {
     pub step: Step,
     pub cursor: Cursor,
 }
 
 // A cursor sought: whether the key was accepted.
-#[derive(Drop)]
+#[derive(Clone, Copy)]
 pub struct Sought {
     pub accepted: bool,
     pub cursor: Cursor,
@@ -64,7 +64,7 @@ const LONGEST_KEY: usize = 288;
 
 // Where a walk turns down in each node: before the first separator, at the first whose key is not below the walk's, at the
 // first above it, or behind the last. Nowhere: it reads no node.
-#[derive(Drop)]
+#[derive(Clone, Copy)]
 enum Turn {
     Nowhere,
     First,
@@ -75,7 +75,7 @@ enum Turn {
 
 // Which separator becomes the candidate: the one that has the walk's key, which ends the walk; the one where it turns; or
 // the one just before.
-#[derive(Drop)]
+#[derive(Clone, Copy)]
 enum Aim {
     Same,
     There,
@@ -83,7 +83,7 @@ enum Aim {
 }
 
 // A separator in a node: its key stands in the bytes of the node that this child names.
-#[derive(Drop)]
+#[derive(Clone, Copy)]
 struct Spot {
     child: Child,
     start: usize,
@@ -92,7 +92,7 @@ struct Spot {
 }
 
 // The last candidate of a walk; or that it met a bad node.
-#[derive(Drop)]
+#[derive(Clone, Copy)]
 enum Candidate {
     Bad,
     Nothing,

@@ -11,14 +11,14 @@ ghost use Rattle.lines.specs.Mirror.{amount_of, is_key, keyed, Put, Placed, enco
 ghost use Rattle.lines.specs.Written.{entry_line, refused_line, Writes};
 
 // What a text is found to be: records of so many bytes, or none.
-#[derive(Drop)]
+#[derive(Clone, Copy)]
 pub enum Parsed {
     Done(usize),
     Refused,
 }
 
 // What a field of digits is found to be.
-#[derive(Drop)]
+#[derive(Clone, Copy)]
 enum Amount {
     Is(u64),
     Not,

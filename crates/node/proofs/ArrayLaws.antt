@@ -1,4 +1,4 @@
--- Laws of what is copied, put in and taken_lem out, over the element type: for arrays of any values, and for arrays that are
+-- Laws of what is copied, put in and taken out, over the element type: for arrays of any values, and for arrays that are
 -- padded with zeros. Children, values, lengths and key bytes all cite these. Assumes nothing.
 use mathlib.Core.Path.{◌≡◌, refl, sym, ap, ◌∙◌}
 use mathlib.Core.List.{List, [], ◌∷◌, ◌++◌, map, map-append, append_assoc, append-nil}
@@ -56,7 +56,7 @@ module _ {A : Type 0} where
   unfolding part
   part_end a j k e = take_all k (drop j a) (simp length-drop (omega arith))
 
-  -- put in or taken_lem out before a seam, and behind_lem it
+  -- put in or taken out before a seam, and behind it
   module _ (p q : List A) (i : ℕ) where
     pub inserted_left : (b : List A) → i ≤ length p → inserted i b (p ++ q) ≡ inserted i b p ++ q
     unfolding inserted
@@ -80,7 +80,7 @@ module _ {A : Type 0} where
         let f : length p + j + length b ≡ length p + (j + length b) = omega arith in
         rw (← e, f, take-append-add p q j, drop-append-add p q (j + length b)) (append_assoc p (take j q) (b ++ drop (j + length b) q))
 
-  -- behind_lem the first
+  -- behind the first
   module _ (y : A) (l : List A) (i : ℕ) where
     pub inserted_behind : (b : List A) → inserted (suc i) b (y ∷ l) ≡ y ∷ inserted i b l
     unfolding inserted
@@ -90,7 +90,7 @@ module _ {A : Type 0} where
     unfolding removed
     removed_behind w = let e : suc i + w ≡ suc (i + w) = omega arith in rw e
 
--- ---- put in and taken_lem out, at the end something lost or come in
+-- ---- put in and taken out, at the end something lost or come in
 
 module _ {A : Type 0} (a : List A) (i : ℕ) where
   pub take_inserted : (b : List A) (n : ℕ) → i ≤ length a → i + length b ≤ n → take n (inserted i b a) ≡ take i a ++ (b ++ take (n - (i + length b)) (drop i a))
@@ -132,7 +132,7 @@ module _ {A : Type 0} (a : List A) (i : ℕ) where
   unfolding over
   over_front p m e = rw (e, append-nil (drop m a)) (sym (append_assoc (take i a) p (drop m a)))
 
-  -- the code's stores: those behind_lem go one up, then x goes in
+  -- the code's stores: those behind go one up, then x goes in
   pub open_array : (x : A) (m n : ℕ) → length a ≡ n → suc m ≡ n → i ≤ m → set (copied a (i + 1) a i (m - i)) i x ≡ take n (insert_at i x a)
   open_array x m n e f h =
       let p : List A = part a i (m - i) in
@@ -145,7 +145,7 @@ module _ {A : Type 0} (a : List A) (i : ℕ) where
       ∙ over_seam (take i a) (take 1 (drop i a)) (x ∷ []) p i lt one in
       rw (copied_in a (i + 1) a i (m - i) (omega arith) (omega arith), up, put) (sym (take_inserted (x ∷ []) n (omega arith) (omega arith) ∙ rw (to_part (n - (i + 1)) (m - i) (omega arith))))
 
-  -- those behind_lem go one down, then z comes in
+  -- those behind go one down, then z comes in
   pub close_array : (z : A) (m n : ℕ) → length a ≡ n → suc m ≡ n → i ≤ m → set (copied a i a (i + 1) (m - i)) m z ≡ take n (remove_at i a ++ (z ∷ []))
   close_array z m n e f h =
       let p : List A = drop (i + 1) a in

@@ -8,7 +8,7 @@ ghost use Rattle.node.specs.EditMirror.{copied, sep_at, with_separator, with_chi
 
 use crate::{Child, Index, Node, Separator, Value};
 
-#[derive(Drop)]
+#[derive(Clone, Copy)]
 pub struct Halves {
     pub left: Node,
     pub middle: Separator,
@@ -248,7 +248,7 @@ fn least(a: usize, b: usize) -> usize
 impl Separator {
     // A key is cut at 288 bytes.
     pub fn new(key: &[u8], value: Value) -> Separator
-        ensures { result ≡ separator_of (record { key = take 288 key.old; val = value.0 }) }
+        ensures { result ≡ separator_of (record { key = take 288 key.now; val = value.0 }) }
     {
         let mut bytes = [0u8; 288];
         let len = least(key.len(), 288);

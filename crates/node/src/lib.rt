@@ -1,20 +1,22 @@
 // A node of the tree: its kinds, and its edits (edit.rt).
+#![tactic(auto)]
+
 pub mod edit;
 
-#[derive(Drop)]
+#[derive(Clone, Copy)]
 pub struct Slot(pub u32);
 
-#[derive(Drop)]
+#[derive(Clone, Copy)]
 pub struct Value(pub u64);
 
-#[derive(Drop)]
+#[derive(Clone, Copy)]
 pub struct Index(pub usize);
 
 // A child's address as it stands in node bytes; 0 is none. It becomes a slot number only by a test against a store's count.
-#[derive(Drop)]
+#[derive(Clone, Copy)]
 pub struct Child(pub u64);
 
-#[derive(Drop)]
+#[derive(Clone, Copy)]
 pub struct Separator {
     pub value: Value,
     pub len: usize,
@@ -22,7 +24,7 @@ pub struct Separator {
 }
 
 // Separators 0 to count - 1, and one more child than separators. The key of separator i stands in keys from 288 * i on.
-#[derive(Drop)]
+#[derive(Clone, Copy)]
 pub struct Node {
     pub count: usize,
     pub children: [Child; 9],

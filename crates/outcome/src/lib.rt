@@ -1,11 +1,13 @@
 // What comes of a change below a node; specs/ has the mirrors, which say what each change makes of a store's bytes.
+#![tactic(auto)]
+
 ghost use Rattle.std.specs.Prelude.{◌≡◌};
 ghost use Rattle.outcome.specs.Outcome.{outcome_of, is_good, is_plain};
 
 use node::{Separator, Slot, Value};
 
 // What came of a change below: the bytes are bad; done; a separator to take in with the slot right of it; fewer than 4 left.
-#[derive(Drop)]
+#[derive(Clone, Copy)]
 pub enum Came {
     Bad,
     Plain,
@@ -29,13 +31,13 @@ impl Came {
 }
 
 // How many slots a set needs, where the bytes on its way are good.
-#[derive(Drop)]
+#[derive(Clone, Copy)]
 pub enum Needed {
     Bad,
     Slots(u32),
 }
 
-#[derive(Drop)]
+#[derive(Clone, Copy)]
 pub struct Outcome {
     pub came: Came,
     pub right: Slot,

@@ -236,7 +236,7 @@ leftmost d s {i = i} over low o t kid read here bytes few some-sep j done [] c (
     (done [] (node_in s c) y.0 y.1 r (z.0, refl) (held_slot d s c rd here, held_is d s c rd here bytes) (omega (arith, low_count d s over.slot.0 over.node i kid read [] c (y ∷ r) z here bytes)))
 leftmost d s {i = i} over low o t kid read here bytes few some-sep j done (a ∷ l) c r z = absurd (omega (arith, z.1))
 
--- a later_lem child whose left sibling isn't there
+-- a later child whose left sibling isn't there
 orphan : (d : ℕ) (s : List ℕ) (v : ℕ) (n : struct.Node) (i : ℕ) {k k' : Child} {f f' : Bool} {w w' : ℕ} {m m' : struct.Node} {o : Outcome}
     → k ≡ get_or n.children i (child_of 0) → Read d s k.0 f w m → not f ≡ false → Bytes s → m.count ≤ 3 → (i ≡ 0 → ⊥)
     → k' ≡ get_or n.children (i - 1) (child_of 0) → Read d s k'.0 f' w' m' → not f' ≡ true → o ≡ outcome_of Bad
@@ -247,7 +247,7 @@ orphan d s v n i kid read here bytes few j kid' read' gone e (a ∷ l) c r z =
     by_mirror (low_some d s v n i kid read (a ∷ l) c r z here bytes ∙ around_later d s v (node_in s c) a l r (is_low_lem d s v n i kid read (a ∷ l) c r z here bytes few)
     ∙ ap (λ (g : Option (Node ℕ ℕ)). with_left d s v l a.1 (node_in s c) r g) (held_none d s a.0 (zip_read v n (i - 1) d s l a.0 ((a.1, c) ∷ r) y kid' read') gone)) (e, refl)
 
--- a later_lem child and its left sibling
+-- a later child and its left sibling
 later_lem : (d : ℕ) (s : List ℕ) {i : ℕ} {k k' : Child} (over left low : Held) (o : Outcome) (t : List ℕ)
     → k ≡ get_or over.node.children i (child_of 0) → Read d s k.0 low.found low.slot.0 low.node → not low.found ≡ false → Bytes s → low.node.count ≤ 3 → (i ≡ 0 → ⊥)
     → k' ≡ get_or over.node.children (i - 1) (child_of 0) → Read d s k'.0 left.found left.slot.0 left.node → not left.found ≡ false

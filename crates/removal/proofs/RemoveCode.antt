@@ -75,7 +75,7 @@ insert_end : (r : List Step) (x : Step) → insert_at (length r) x r ≡ r ++ (x
 unfolding inserted
 insert_end r x = rw (take_all (length r) r (omega arith), drop_past r (length r) (omega arith))
 
--- ---- a struct with a separator at index_lem i
+-- ---- a struct with a separator at index i
 
 module _ {n : struct.Node} {c : ℕ} (p : List Step) (z : Step) (q : List Step) (is : Is n c (p ++ (z ∷ q))) {i : ℕ} (h : i ≡ length p) where
   short : Short (p ++ (z ∷ q))
@@ -174,7 +174,7 @@ pub closes_plug : {n : struct.Node} {o : Outcome} {t : List ℕ} (s : List ℕ) 
 closes_plug {o = o} {t = t} s x l a r is h =
     subst (λ (y : ℕ). Does (close_m s (record { slot = y; first = (plug x l a r).first; rest = (plug x l a r).rest })) o t) (sym (plug_slot x l a r)) (closes s x (plug x l a r).first (plug x l a r).rest is h)
 
--- an answer after_lem stores that are the mirror's
+-- an answer after stores that are the mirror's
 module _ {o : Outcome} {t : List ℕ} (m : Node ℕ ℕ) where
   after_lem : {s u : List ℕ} → s ≡ u → Does (close_m s m) o t → Does (close_m u m) o t
   after_lem e h = subst (λ (s : List ℕ). Does (close_m s m) o t) e h

@@ -14,7 +14,7 @@ use node::{Child, Index, Node, Separator, Slot};
 use outcome::{Came, Outcome};
 
 // A node that was read, and the slot it stands in; `found` is false where there is none.
-#[derive(Drop)]
+#[derive(Clone, Copy)]
 pub struct Held {
     pub found: bool,
     pub slot: Slot,

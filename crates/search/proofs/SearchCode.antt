@@ -131,7 +131,7 @@ module _ (s : List ℕ) where
   follow_first next c (Ended e) = refl
 
 module _ (t : Turn) (leaf : Bool) (s : List ℕ) (k : Key) where
-  -- what is left to scan, behind_lem what was seen, makes the whole
+  -- what is left to scan, behind what was seen, makes the whole
   abbrev pub Seen : Sight → ℕ → ℕ → Type 0
   Seen v at i = sight_of t leaf s k ≡ sight_in t leaf s k v (scan_from s (8 - i) at)
 
@@ -151,7 +151,7 @@ module _ (t : Turn) (leaf : Bool) (s : List ℕ) (k : Key) where
       in_bytes = from_index ∙ pick_t _ _ (sym f ∙ not-false _ n) ∙ rw g
 
       first_is : (scan_from s (8 - i) at).first ≡ c
-      first_is = ap (λ (r : Scan). r.first) in_bytes ∙ by_test (λ (r : Scan). r.first ≡ c) (eqb (at + 8) (length s)) (λ e. refl) (λ e. follow_first s _ _ (head_at s (at + 8)))
+      first_is = ap (λ (r : Scan). r.first) in_bytes ∙ by_test (λ (r : Scan). r.first ≡ c) (eqb (at + 8) (length s)) (λ e. refl) (λ e. follow_first s (scan_from s (8 - (i + 1))) c (head_at s (at + 8)))
 
       walk_misfit : {r : Sight} → m ≡ true → r.good ≡ false → Saw t leaf s k r
       walk_misfit y = saw_none (l ∙ misfit t leaf s k v _ c first_is (sym a ∙ y))
@@ -177,7 +177,7 @@ module _ (t : Turn) (leaf : Bool) (s : List ℕ) (k : Key) where
               behind_lem x ∙ passed_lem t leaf s k v c (record { value = w.0; start = start; len = len; plain = plain }) _ (not-false plain p) (sym a ∙ y)
               ∙ ap (λ (r : Sight). sight_in t leaf s k r (scan_from s (8 - (i + 1)) (start + len))) (ap (λ (u : Sight). met_spot t u (record { start = start; len = len; value = w }) (order_of (cmp k (part s start len)))) (sym q) ∙ sym e)
 
-  -- ---- the child behind_lem the eighth separator
+  -- ---- the child behind the eighth separator
 
   module _ (v : Sight) (at : ℕ) (l : sight_of t leaf s k ≡ sight_in t leaf s k v (scan_from s 0 at)) where
     last_scan : sight_of t leaf s k ≡ sight_in t leaf s k v
@@ -210,7 +210,7 @@ module _ (t : Turn) (leaf : Bool) (s : List ℕ) (k : Key) where
   at_last : (v : Sight) (at : ℕ) {r : Sight} → 8 ≤ v.count → v.count ≤ 8 → Seen v at v.count → SeesLast leaf s v at r → Saw t leaf s k r
   at_last v at h o l q = let e : v.count ≡ 8 = omega arith in q t k (l ∙ ap (λ (n : ℕ). sight_in t leaf s k v (scan_from s (8 - n) at)) e)
 
--- ---- the loop behind_lem the turn: what it hands back of the rest, it hands back of the whole
+-- ---- the loop behind the turn: what it hands back of the rest, it hands back of the whole
 
 module _ (leaf : Bool) (s : List ℕ) (v : Sight) (at : ℕ) where
   pub on_last : {r : Sight} → 8 ≤ v.count → SeesLast leaf s v at r → GoesOn leaf s v at r

@@ -1,4 +1,6 @@
 // A walk along node bytes in one reading: the child where it turns down and the separators beside it. No places are built.
+#![tactic(auto)]
+
 ghost use Rattle.std.specs.Prelude.{◌≡◌, true, false, ◌<◌};
 ghost use Rattle.search.specs.Search.{bar_of, rank_of, passes, meets, misfits, empty_sight, behind_spot, at_spot, Saw, SeesLast, GoesOn};
 
@@ -9,7 +11,7 @@ use word::Order;
 
 // Where a walk along a node turns down: before the first separator, at the first whose key is not below the given one, at the
 // first above it, or behind the last.
-#[derive(Drop)]
+#[derive(Clone, Copy)]
 pub enum Turn {
     First,
     NotBelow,
@@ -18,7 +20,7 @@ pub enum Turn {
 }
 
 // A separator in node bytes: where its key stands, and its value.
-#[derive(Drop)]
+#[derive(Clone, Copy)]
 pub struct Spot {
     pub start: usize,
     pub len: usize,
@@ -28,7 +30,7 @@ pub struct Spot {
 // What the walk sees. `found` is where it turns and whether the separator there has the key, `child` the child there; `here` is
 // the separator there, if it `turned` at one, and `before` the one just before, if there is one. Not `good`: the
 // strict reading refuses the bytes, or their children don't fit.
-#[derive(Drop)]
+#[derive(Clone, Copy)]
 pub struct Sight {
     pub good: bool,
     pub turned: bool,

@@ -46,7 +46,7 @@ abbrev pub IfSome : {C : Type 0} → (C → Type 0) → Option C → Type 0
 IfSome P none = Unit {0}
 IfSome P (some c) = P c
 
--- a node_lem that can be written, in slot x
+-- a node that can be written, in slot x
 pub record FineAt (x : ℕ) (m : Node ℕ ℕ) : Type 0 where
   pub fine : Writable m.first m.rest
   pub slot : m.slot ≡ x
@@ -64,7 +64,7 @@ read_writable s x h =
     (λ f. tt))
     (λ q. tt)
 
--- a node_lem in its slot, which is x
+-- a node in its slot, which is x
 pub record StandsAt (s : List ℕ) (x : ℕ) (m : Node ℕ ℕ) : Type 0 where
   pub in_slot : InSlot s m
   pub slot : m.slot ≡ x

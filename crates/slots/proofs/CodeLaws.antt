@@ -362,7 +362,7 @@ module _ (s : List ℕ) (x : ℕ) (n : struct.Node) {b : Bool} (test : b ≡ is_
     unfolding part
     lent = let e : (at + slot_size) - (at + 4) ≡ node_room = omega arith in rw e
 
-    -- the part that is lent to `codec::write`, and what it holds_lem then
+    -- the part that is lent to `codec::write`, and what it holds then
     module _ {w : Written} {d : List ℕ}
         (answer : w ≡ written_of n (take ((at + slot_size) - (at + 4)) (drop (at + 4) s)))
         (left : d ≡ left_by (written_of n (take ((at + slot_size) - (at + 4)) (drop (at + 4) s))) n (take ((at + slot_size) - (at + 4)) (drop (at + 4) s)))

@@ -172,7 +172,7 @@ module _ (s : List ℕ) where
         let is-root : bit (eqb (root_of s) g.tree.slot) ≡ 1 = ap (λ (r : ℕ). bit (eqb (root_of s) r)) g.slot ∙ occurs_itself (root_of s) in
         let alone : Rootless s (read none_of (slots ℕ d) g.tree) = omega (arith, all (root_of s), in_store_le (count_of s) (root_of s)) in
         pass (rooted (record { depth = d; root = g.tree; free = h.chain }))
-        (record { base_lem = subst (λ (r : ℕ). Based (count_of s) r d s h.chain) (sym g.slot) base_lem; tree = g.holds })
+        (record { base = subst (λ (r : ℕ). Based (count_of s) r d s h.chain) (sym g.slot) base_lem; tree = g.holds })
         (record {
           rising = h.rising (entries ℕ (suc d) g.tree) (rw (ne_eqb (root_of s) 0 ne) (ap (entries_o (suc d)) (ap (build (suc d) s) (sym g.slot) ∙ built)));
           shape = g.fits (root_least d) g.least alone;

@@ -1,5 +1,7 @@
 // The store: a header, slots of one size, and a chain of the free ones, all in lent bytes. All is total: what isn't a slot
 // is answered so and changes nothing.
+#![tactic(auto)]
+
 ghost use Rattle.std.specs.Prelude.{◌≡◌, ◌-◌, length};
 ghost use Rattle.codec.specs.Layout.{places_of};
 ghost use Rattle.slots.specs.Layout.{start, root_of, depth_of, count_of, first_of, is_store};
@@ -38,7 +40,7 @@ const FIRST_FREE_AT: usize = 16;
 
 const ZEROS_AT: usize = 20;
 
-#[derive(Drop)]
+#[derive(Clone, Copy)]
 pub enum Formatted {
     Done,
     Refused,
@@ -288,7 +290,7 @@ pub fn insert_bytes(
     value: Value,
     child: Child,
 )
-    ensures { store.new ≡ inserted_bytes store.old slot.0 place (record { key = key.old; val = value.0 }) child.0 }
+    ensures { store.new ≡ inserted_bytes store.old slot.0 place (record { key = key.now; val = value.0 }) child.0 }
 {
     if !is_slot(store, slot.0 as u64) {
         return;

@@ -1,6 +1,6 @@
 -- Lookup is the map's; a step of the cursor gives the map's neighbour; steps one after another give all that is ahead of the
 -- place, or behind it. Assumes nothing.
-use mathlib.Core.Path.{◌≡◌, refl, sym, ap, ◌∙◌}
+use mathlib.Core.Path.{◌≡◌, refl, sym, ap, subst, ◌∙◌}
 use mathlib.Core.List.{List, [], ◌∷◌, ◌++◌, append_assoc, reverse, reverse-append}
 use mathlib.Core.Bool.{Bool, true, false, cond, not}
 use mathlib.Core.Option.{Option, none, some}
@@ -216,7 +216,7 @@ module _ {A : Type 0} where
   Upward q = (a b : Sep A) → Lt a.key b.key → q a ≡ true → q b ≡ true
 
   record First (q : Sep A → Bool) (l : List (Sep A)) (e : Sep A) (rest : List (Sep A)) : Type 0 where
-    kept_lem : keep q l ≡ e ∷ rest
+    kept : keep q l ≡ e ∷ rest
     found : first_of q l ≡ some e
     later : keep (above e.key) l ≡ rest
 
@@ -238,11 +238,11 @@ module _ {A : Type 0} where
       let it : s ≡ e = cc in
       let more : keep q l ≡ m = cc in
       let rest : l ≡ m = sym (all_kept q up s l p h.0) ∙ more in
-      record { kept_lem = g; found = rw p (rw it); later = rw (← it) (rw (cmp_refl s.key) (keep_above s l h.0 ∙ rest)) })
+      record { kept = g; found = rw p (rw it); later = subst (λ (x : Sep A). keep (above {A = A} x.key) (s ∷ l) ≡ m) it (rw (cmp_refl s.key) (keep_above s l h.0 ∙ rest)) })
       (λ p.
       let ih = first_if q up l h.1 (e ∷ m) (rw p at g) in
       let lt : Lt s.key e.key = (rw ih.kept at (above_keep q s.key l h.0)).0 in
-      record { kept_lem = g; found = rw p ih.found; later = rw (lt_gt s.key e.key lt) ih.later })
+      record { kept = g; found = rw p ih.found; later = rw (lt_gt s.key e.key lt) ih.later })
 
   -- behind a place is its last, and what is below that; or nothing
   data Last (q : Sep A → Bool) (l : List (Sep A)) : Type 0 where

@@ -21,7 +21,7 @@ use Rattle.word.proofs.PartLaws.{length_part, length_part_cut, length_over, part
 use Rattle.word.proofs.NumLaws.{length_zeros, zeros_append, all_zero_append, all_zero_one, length_le, be_append, un_append, un_same, bytes_part}
 use Rattle.word.proofs.AtLaws.{read_at_in, write_at_in, copy_at_in, clear_at_in, zero_at_in}
 
--- a byte stored behind_lem those that are stored already
+-- a byte stored behind those that are stored already
 over_more : (s : List ℕ) (a : ℕ) (b : List ℕ) (i v : ℕ) → length b ≡ i → a + i < length s → set (over s a b) (a + i) v ≡ over s a (b ++ (v ∷ []))
 over_more s a b i v e h =
     rw (← e) (set_over (over s a b) (a + length b) v (omega (arith, length_over s a b (omega arith))) ∙ over_beside s a b (v ∷ []) (omega arith))

@@ -1,12 +1,14 @@
 // Numbers in little-endian at a place of a slice, copies into a part, zero tests, and the order of keys. All is total:
 // what doesn't lie within the slice reads as 0, is not written, and is not all zero.
+#![tactic(auto)]
+
 ghost use Rattle.std.specs.Prelude.{◌≡◌, [], ◌∷◌, min, ◌+◌, ◌-◌, ◌<◌, ◌≤◌, length};
 ghost use Rattle.word.specs.Key.{cmp, order_of};
 ghost use Rattle.word.specs.Part.{part};
 ghost use Rattle.word.specs.Num.{un, be};
 ghost use Rattle.word.specs.At.{fits_in, read_at, write_at, copy_at, move_at, clear_at, zero_at};
 
-#[derive(Drop)]
+#[derive(Clone, Copy)]
 pub enum Order {
     Less,
     Equal,

@@ -1,0 +1,12 @@
+-- `codec::any_zero` meets its contract. The loop: what is left to look at decides. Assumes nothing.
+use Prim.Native.Nat.{◌≤◌, ◌-◌}
+use Rattle.node.specs.Chain.{value_of}
+use Rattle.codec.specs.Layout.{is_none}
+use Rattle.codec.proofs.WriteLaws.{AnyLeft}
+use Rattle.codec.proofs.any_zero.Given as goal
+
+abbrev pub invariant-loop-i : goal.invariant-loop-i
+invariant-loop-i l = (l.i ≤ 8) × AnyLeft is_none (value_of 0) l.values l.count l.i
+
+abbrev pub decreases-loop-i : goal.decreases-loop-i
+decreases-loop-i l = 8 - l.i
