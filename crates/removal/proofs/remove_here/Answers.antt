@@ -7,4 +7,4 @@ pub returns-then-not-leaf : goal.returns-then-not-leaf
 returns-then-not-leaf c = remove_here_1 _ _ c.hold-leaf.ensures c.if-not-leaf.true _ _
 
 pub returns : goal.returns
-returns c = remove_here_2 _ _ c.hold-leaf.ensures c.if-not-leaf.false (λ i h. omega (arith, c.type_inv.UNKNOWN_slice_known i)) _ c.remove_at.ensures c.close.ensures
+returns c = remove_here_2 _ _ c.hold-leaf.ensures c.if-not-leaf.false (λ i h. omega (arith, c.slice_known-1.given i)) _ c.remove_at.ensures c.close.ensures

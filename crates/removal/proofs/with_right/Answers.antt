@@ -10,7 +10,7 @@ pub returns-then-not-right : goal.returns-then-not-right
 returns-then-not-right c = with_right_2 _ _ _ _ _ c.child-child.ensures c.hold-right.ensures c.if-not-right.true c.of-then-not-right.ensures
 
 pub returns-then-right-gt4 : goal.returns-then-right-gt4
-returns-then-right-gt4 c = with_right_3 _ _ _ _ _ _ (λ i h. omega (arith, c.type_inv.store i)) c.child-child.ensures c.hold-right.ensures c.if-not-right.false _ _ c.if-right-gt4.true c.borrow_right.ensures
+returns-then-right-gt4 c = with_right_3 _ _ _ _ _ _ (λ i h. omega (arith, c.slice_known-1.given i)) c.child-child.ensures c.hold-right.ensures c.if-not-right.false _ _ c.if-right-gt4.true c.borrow_right.ensures
 
 pub returns : goal.returns
-returns c = with_right_4 _ _ _ _ _ _ (λ i h. omega (arith, c.type_inv.store i)) c.child-child.ensures c.hold-right.ensures c.if-not-right.false _ _ c.if-right-gt4.false c.merge.ensures
+returns c = with_right_4 _ _ _ _ _ _ (λ i h. omega (arith, c.slice_known-1.given i)) c.child-child.ensures c.hold-right.ensures c.if-not-right.false _ _ c.if-right-gt4.false c.merge.ensures
