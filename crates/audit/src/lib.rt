@@ -1,4 +1,6 @@
 // The audit of a store on any bytes: one walk of the tree by depth, then the free chain, then nothing left over. All is total.
+#![tactic(auto)]
+
 ghost use Rattle.std.specs.Prelude.{◌≡◌, false, length, take};
 ghost use Rattle.word.specs.Num.{zeros};
 ghost use Rattle.word.specs.Pick.{pick};

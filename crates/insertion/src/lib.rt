@@ -1,4 +1,6 @@
 // A set: how many slots it needs, and a separator taken in by a node, up to the root.
+#![tactic(auto)]
+
 ghost use Rattle.std.specs.Prelude.{◌≡◌, List, ℕ, ◌≤◌, ◌<◌, length};
 ghost use Rattle.tree.specs.Map.{Sep};
 ghost use Rattle.node.specs.Chain.{Step, longest_key, Fit, Writable, node_of};

@@ -1,5 +1,7 @@
 // Lookup and cursor on the bytes of a store. Both go down from the root by one walk, `walk`, which reads a node's places
 // where they stand and builds no node; what it takes in each node is told by a `Turn` and an `Aim`.
+#![tactic(auto)]
+
 ghost use Rattle.std.specs.Prelude.{◌≡◌, suc};
 ghost use Rattle.iter.specs.Walk.{lookup_number, lookup_of};
 ghost use Rattle.iter.specs.Cursor.{sought_number, sought_of, step_number, forward_of, backward_of};

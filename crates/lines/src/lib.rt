@@ -1,4 +1,6 @@
 // House lines: text to a batch's records, and entries and refusals back to text.
+#![tactic(auto)]
+
 ghost use Rattle.std.specs.Prelude.{◌≡◌, true, ◌≤◌, ◌%◌, length};
 ghost use Rattle.std.proofs.Math.Dec.{compare_is_eq};
 ghost use Rattle.word.specs.Key.{cmp};

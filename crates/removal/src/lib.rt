@@ -1,4 +1,6 @@
 // Removals: what a node does when a child of it holds fewer than 4.
+#![tactic(auto)]
+
 ghost use Rattle.std.specs.Prelude.{◌≡◌, ltb, ℕ, min};
 ghost use Rattle.codec.specs.Codec.{is_accepted};
 ghost use Rattle.slots.specs.Code.{written_in, reading_at, read_node_at, slot_of};

@@ -1,0 +1,16 @@
+-- `lines::parse` meets its contract: a law for each way through it. Assumes nothing.
+use Rattle.lines.proofs.LinesLaws.{parse_1, parse_2, parse_3, parse_within}
+use native.Mathlib.Omega.{arith}
+use Rattle.lines.proofs.parse.Goals as goal
+
+pub returns-then-text-gt16384 : goal.returns-then-text-gt16384
+returns-then-text-gt16384 c = parse_1 _ _ _ c.if-text-gt16384.true c.clear.ensures
+
+pub overflow_sub-room : goal.overflow_sub-room
+overflow_sub-room c = let w = parse_within c.args.text.now c.args.records.now c.if-text-gt16384.false _ _ c.put_lines.ensures _ c.in-Done.is in omega arith
+
+pub returns-in-Done : goal.returns-in-Done
+returns-in-Done c = parse_2 c.args.text.now c.args.records.now c.if-text-gt16384.false _ _ c.put_lines.ensures _ c.in-Done.is _ c.clear-in-Done.ensures
+
+pub returns-in-Refused : goal.returns-in-Refused
+returns-in-Refused c = parse_3 c.args.text.now c.args.records.now c.if-text-gt16384.false _ _ c.put_lines.ensures _ c.in-Refused.is c.records-2-1.given c.clear-in-Refused.ensures
