@@ -1,5 +1,7 @@
 // How an answer, a cursor and a node lie in lent numbers. The functions exported for C and Rust (crate `capi`) leave what they
 // answer by these, and take by these what they are lent.
+#![tactic(auto)]
+
 ghost use Rattle.std.specs.Prelude.{◌≡◌, map};
 ghost use Rattle.node.specs.Chain.{value_of, child_of};
 ghost use Rattle.lent.specs.Lent.{present_of, found_value, kind_of, length_of, place_of, Holds, entry_of, entry_value, Steps, within};

@@ -32,7 +32,7 @@ pub visit-returns-then-not-rises : goal.visit-returns-then-not-rises
 visit-returns-then-not-rises t c = visit_falls _ _ _ _ _ _ _ c.loop-i.seen c.loop-i.marks c.loop-i.i c.loop-i.invariant.6 c.if-not-seen.false c.loop-i-test.true (c.loop-i.invariant.7 c.loop-i.i) c.rises.ensures _ _ c.if-not-rises.true-raw c.failed-then-not-rises.ensures ∙ sym (visit_entered c.args.store.now (bytes_of c.args.store.now (λ i l. omega (arith, c.type_inv.store i))) c.args.height c.args.least c.args.child.0 (record { marks = c.args.marks.now; last = key_of c.args.store.now c.args.before }) c.if-height-eq0.false c.slot_of-slot.ensures c.node_places-places.ensures c.enter.ensures c.if-not-enter.false-raw c.start_of-from.ensures c.descend-seen.ensures)
 
 pub visit-descend-seen-requires-in-loop-i : goal.visit-descend-seen-requires-in-loop-i
-visit-descend-seen-requires-in-loop-i t c = (omega (arith, c.requires.0, c.if-height-eq0.false), tt)
+visit-descend-seen-requires-in-loop-i t c = (omega (arith, c.decreases, c.if-height-eq0.false), tt)
 
 pub visit-loop-i-preserved : goal.visit-loop-i-preserved
 visit-loop-i-preserved t c = (omega arith, c.loop-i.invariant.1, c.loop-i.invariant.2, c.loop-i.invariant.3, c.loop-i.invariant.4, omega arith, visit_turn _ _ _ _ _ _ _ c.loop-i.seen c.loop-i.marks c.loop-i.i c.loop-i.invariant.6 c.if-not-seen.false c.loop-i-test.true (c.loop-i.invariant.7 c.loop-i.i) c.rises.ensures _ _ c.if-not-rises.false-raw c.descend-seen-in-loop-i.ensures, c.loop-i.invariant.7, c.loop-i.invariant.8)

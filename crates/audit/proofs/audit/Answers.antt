@@ -3,7 +3,7 @@ use mathlib.Core.Path.{refl}
 use Rattle.word.proofs.NumLaws.{bytes_of}
 use Rattle.audit.proofs.WholeCode.{words_few, audit_1, audit_2, audit_3, audit_4, audit_5}
 use native.Mathlib.Omega.{arith}
-use Rattle.audit.proofs.audit.Goals.{else-walk_tree, then-walk_tree}
+use Rattle.audit.proofs.audit.Goals.{else-walk_tree, then-walk_tree+else-fills}
 use Rattle.audit.proofs.audit.Goals as goal
 
 pub returns-then-not-is_store : goal.returns-then-not-is_store
@@ -19,4 +19,4 @@ pub returns-then-fills : goal.returns-then-fills
 returns-then-fills c = audit_3 _ _ (bytes_of c.args.store.now (λ i l. omega (arith, c.type_inv.store i))) c.is_store.ensures c.if-not-is_store.false-raw c.count-count.ensures c.words_for-words.ensures c.if-marks-words.false c.clear_marks.ensures _ _ c.walk_tree.ensures c.if-walk_tree.true c.fills.ensures c.if-fills.true refl c.count_marks.ensures
 
 pub returns : goal.returns
-returns c = elim c.if-walk_tree.branch [ then-walk_tree w ↦ audit_5 _ _ (bytes_of c.args.store.now (λ i l. omega (arith, c.type_inv.store i))) c.is_store.ensures c.if-not-is_store.false-raw c.count-count.ensures c.words_for-words.ensures c.if-marks-words.false c.clear_marks.ensures _ _ c.walk_tree.ensures w.if-walk_tree.true w.2.ensures w.3.left (omega arith) c.clear_marks-2.ensures | else-walk_tree w ↦ audit_4 _ _ (bytes_of c.args.store.now (λ i l. omega (arith, c.type_inv.store i))) c.is_store.ensures c.if-not-is_store.false-raw c.count-count.ensures c.words_for-words.ensures c.if-marks-words.false c.clear_marks.ensures _ _ c.walk_tree.ensures w.if-walk_tree.false (omega arith) c.clear_marks-2.ensures ]
+returns c = elim c.if-walk_tree.branch [ then-walk_tree+else-fills w ↦ audit_5 _ _ (bytes_of c.args.store.now (λ i l. omega (arith, c.type_inv.store i))) c.is_store.ensures c.if-not-is_store.false-raw c.count-count.ensures c.words_for-words.ensures c.if-marks-words.false c.clear_marks.ensures _ _ c.walk_tree.ensures w.if-walk_tree.true w.fills.ensures w.if-fills.false (omega arith) c.clear_marks-2.ensures | else-walk_tree w ↦ audit_4 _ _ (bytes_of c.args.store.now (λ i l. omega (arith, c.type_inv.store i))) c.is_store.ensures c.if-not-is_store.false-raw c.count-count.ensures c.words_for-words.ensures c.if-marks-words.false c.clear_marks.ensures _ _ c.walk_tree.ensures w.if-walk_tree.false (omega arith) c.clear_marks-2.ensures ]

@@ -16,7 +16,7 @@ pub overflow_shl-marks : goal.overflow_shl-marks
 overflow_shl-marks c = bit_below _ c.bit_of-b.ensures
 
 pub overflow_add-marks : goal.overflow_add-marks
-overflow_add-marks c = record { fits = claim_fits _ _ c.is_clear.ensures c.if-not-is_clear.false-raw c.word_of-i.ensures c.bit_of-b.ensures (omega (arith, c.type_inv.UNKNOWN_slice_known2 c.word_of-i.result)) }
+overflow_add-marks c = record { fits = claim_fits _ _ c.is_clear.ensures c.if-not-is_clear.false-raw c.word_of-i.ensures c.bit_of-b.ensures (omega (arith, c.slice_known-1.given c.word_of-i.result)) }
 
 pub offset_bounds-marks-i-2 : goal.offset_bounds-marks-i-2
 offset_bounds-marks-i-2 c = omega (arith, claim_in _ _ c.is_clear.ensures c.if-not-is_clear.false-raw c.word_of-i.ensures c.bit_of-b.ensures)
