@@ -1,4 +1,6 @@
 // A batch on a store: the refusals in 01's order, the audit, and then the runs.
+#![tactic(auto)]
+
 ghost use Rattle.std.specs.Prelude.{◌≡◌};
 ghost use Rattle.tree.specs.Batch.{runs_of};
 ghost use Rattle.changes.specs.declared.Checked.TheVariants.{Fine};

@@ -1,5 +1,7 @@
 // The store for programs in C and Rust: its functions on numbers and lent slices. Each passes on what the function that it calls
 // answers. Nothing is decided here, and how an answer, a cursor and a node lie in lent numbers is told by the crate `lent`.
+#![tactic(auto)]
+
 ghost use Rattle.std.specs.Prelude.{◌≡◌};
 ghost use Rattle.node.specs.Chain.{child_of};
 ghost use Rattle.codec.specs.Layout.{places_of};

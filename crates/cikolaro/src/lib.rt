@@ -1,5 +1,7 @@
 // The public face: what a user calls, and nothing else. No function asks anything of its caller; each says for all inputs what
 // it answers and what every byte and word lent to it holds afterwards.
+#![tactic(auto)]
+
 ghost use Rattle.std.specs.Prelude.{◌≡◌};
 ghost use Rattle.word.specs.Part.{part};
 ghost use Rattle.codec.specs.Layout.{reading_of, key_place, written_of, left_by};
