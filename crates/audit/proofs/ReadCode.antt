@@ -2,22 +2,20 @@
 use mathlib.Core.Path.{◌≡◌, refl, sym, ap, ◌∙◌}
 use mathlib.Core.List.{List, [], ◌∷◌, ◌++◌, map, append_assoc, append-nil}
 use mathlib.Core.Bool.{Bool, true, false, cond, ◌&&◌}
-use mathlib.Core.Option.{Option, none, some}
+use mathlib.Core.Option.{none, some}
 use Prim.Native.Nat.{ℕ, ◌+◌, ◌-◌, ◌≤◌}
 use lib.ListN.{length, get_or, length-append, length-map}
 use lib.Dec.{leb}
 use native.Mathlib.Omega.{arith}
 use native.Mathlib.Numerals.{add-one}
 use borrow.Author.Tests.{leb-true, le-leb}
-use Rattle.word.specs.Pick.{pick_t}
 use Rattle.word.specs.Part.{part}
 use Rattle.word.specs.Num.{Bytes, le, un, zeros}
 use Rattle.word.specs.At.{zero_at}
 use Rattle.word.proofs.PartLaws.{length_part, part_add, part_part, part_seam}
 use Rattle.word.proofs.NumLaws.{length_zeros, le_un, bytes_part}
 use Rattle.word.proofs.AtLaws.{read_at_in, zero_at_is, zero_at_true}
-use Rattle.tree.specs.Tree.{Node}
-use Rattle.tree.proofs.Cases.{by_bool, by_cond}
+use Rattle.tree.proofs.Cases.{by_bool}
 use Rattle.codec.specs.declared.Ending.{Ending}
 use Rattle.codec.specs.Codec.{Spot, Scan, encode, scan, step_of, is_accepted, is_no_byte_left}
 use Rattle.node.specs.Chain.{padded, value_of, child_of}
@@ -25,17 +23,14 @@ use Rattle.codec.specs.Layout.{layout, places_of, reading_of, all_plain}
 use Rattle.codec.proofs.ScanLaws.{refused_not_whole, AllLie, scan_lies, scan_sound}
 use Rattle.node.proofs.ChainLaws.{get_or_padded, get_or_mapped, length_padded}
 use Rattle.codec.proofs.ReadLaws.{ends_within}
-use Rattle.codec.proofs.Theorems.{standard_flagged}
 use Rattle.slots.specs.Limits.{least_node, most_node, slot_size}
 use Rattle.slots.specs.Layout.{start, slot_at, used}
 use Rattle.slots.specs.Mirror.{is_slot, length_at, node_bytes, holds_node}
-use Rattle.slots.specs.Stands.{InSlot}
 use Rattle.slots.specs.Entries.{same_bytes, as_written}
 use Rattle.slots.specs.Code.{node_room, slot_of, bytes_in, places_in, reading_in, first_in, rest_in, node_in}
 use Rattle.slots.proofs.HeaderLaws.{and_both}
 use Rattle.slots.proofs.PlaceLaws.{slot_is, slot_part}
-use Rattle.slots.proofs.StoreLaws.{read_bytes}
-use Rattle.slots.proofs.CodeLaws.{whole, bytes_small, writable_in, read_accepted, read_refused, accepted_holds, accepted_standard, accepted_bytes, accepted_slot}
+use Rattle.slots.proofs.CodeLaws.{whole, bytes_small, read_accepted, read_refused, accepted_holds, accepted_standard, accepted_bytes, accepted_slot}
 use Rattle.slots.proofs.Building.{same_bytes_true, same_bytes_refl}
 use Rattle.audit.specs.Walk.{read_written}
 use Rattle.audit.specs.Code.{has_zeros, steps_at}

@@ -23,7 +23,7 @@ use Rattle.audit.specs.declared.Seen as struct
 use Rattle.audit.specs.declared.Chain.{Chain}
 use Rattle.audit.specs.Marks.{words_for, all_ones}
 use Rattle.audit.specs.Contract.{Audits}
-use Rattle.audit.specs.Walk.{in_words, is_clear, Seen, bind, read_written, visit, linked, next_free, is_idle, chain, fills, walk_tree, walk_free, walk}
+use Rattle.audit.specs.Walk.{in_words, is_clear, bind, read_written, visit, linked, next_free, is_idle, chain, fills, walk_tree, walk_free, walk}
 use Rattle.audit.specs.Code.{key_of, seen_of, visit_in, length_from, chain_of, chain_in, left_of, walk_tree_in, fills_in, Answer, walked, answer}
 use Rattle.audit.proofs.VisitCode.{seen_right, seen_wrong, key_none}
 use Rattle.audit.proofs.Theorems.{answer_right}

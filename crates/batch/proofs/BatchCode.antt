@@ -3,7 +3,7 @@ use mathlib.Core.Path.{◌≡◌, refl, sym, ap, subst, ◌∙◌}
 use mathlib.Core.List.{List, [], ◌∷◌}
 use mathlib.Core.Bool.{Bool, true, false, not}
 use mathlib.Core.Option.{Option, none, some}
-use Prim.Native.Nat.{ℕ, ◌+◌, ◌^◌, ◌≤◌, ◌<◌}
+use Prim.Native.Nat.{ℕ, ◌≤◌, ◌<◌}
 use lib.ListN.{length}
 use native.Mathlib.Omega.{arith}
 use borrow.Author.Tests.{not-true, not-false}
@@ -29,10 +29,10 @@ use Rattle.btree.specs.declared.records.Ended as code
 use Rattle.outcome.specs.RunMirror as M
 use Rattle.outcome.specs.RunMirror.{Ended, start_m, run_all_m}
 use Rattle.btree.specs.RunCode.{acted_of, Ends}
-use Rattle.btree.proofs.Runs.{FitOp, FitRecs, end_of, EndedAs, batch_m}
+use Rattle.btree.proofs.Runs.{FitOp, FitRecs, end_of, batch_m}
 use Rattle.btree.proofs.Corollaries.{batch_ends}
 use Rattle.batch.specs.declared.Answer.{Answer}
-use Rattle.batch.specs.declared.Answer.TheVariants.{Done, NotStore, FewMarks, Short, LongKey, BadValue, Falls, TooMany, Fails, NoRoom}
+use Rattle.batch.specs.declared.Answer.TheVariants.{Done, NotStore, FewMarks, Fails, NoRoom}
 use Rattle.batch.specs.declared.Batched.{Batched}
 use Rattle.batch.specs.Contract.{answer_number, told, Refuses, Runs, Batches}
 use Rattle.batch.specs.Code.{refused_with, of_checked, ended_with, batched_of}

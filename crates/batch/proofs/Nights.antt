@@ -5,12 +5,12 @@ use mathlib.Core.Path.{◌≡◌, refl, sym, ap, subst, ◌∙◌}
 use mathlib.Core.List.{List, [], ◌∷◌, ◌++◌, append_assoc}
 use mathlib.Core.Bool.{Bool, true, false, not, ◌&&◌}
 use mathlib.Core.Option.{Option, none, some}
-use Prim.Native.Nat.{ℕ, zero, suc, ◌+◌, ◌≤◌, ◌<◌}
+use Prim.Native.Nat.{ℕ, ◌≤◌}
 use lib.ListN.{length}
-use lib.Dec.{leb, ltb, eqb}
+use lib.Dec.{leb, ltb}
 use native.Mathlib.Omega.{arith}
 use borrow.Author.Tests.{leb-true, ltb-true}
-use Rattle.word.specs.Key.{Key, cmp, is_lt, Lt}
+use Rattle.word.specs.Key.{Key, cmp, is_lt}
 use Rattle.word.specs.Num.{Bytes}
 use Rattle.tree.specs.Free.{stack}
 use Rattle.tree.specs.Batch.{Rec, NoneBelow, NeverFall}
@@ -26,9 +26,9 @@ use Rattle.slots.specs.Stands.{Stands, Audited}
 use Rattle.slots.specs.Format.{fresh}
 use Rattle.slots.proofs.FormatLaws.{fresh_stands}
 use Rattle.audit.specs.Marks.{words_for}
-use Rattle.changes.specs.Fit.{FitOp, Fit, AllFit}
-use Rattle.changes.specs.Records.{most_records, encode_records, records_of}
-use Rattle.changes.proofs.WrittenLaws.{WrittenRead, written_read}
+use Rattle.changes.specs.Fit.{FitOp, AllFit}
+use Rattle.changes.specs.Records.{encode_records}
+use Rattle.changes.proofs.WrittenLaws.{written_read}
 use Rattle.btree.proofs.Corollaries.{batch_ends}
 use Rattle.batch.specs.declared.Batched.{Batched}
 use Rattle.batch.specs.Contract.{answer_number, Batches}

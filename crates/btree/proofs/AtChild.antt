@@ -2,12 +2,12 @@
 -- call below has written; so that reading its slot again gives the same node. Assumes nothing.
 use mathlib.Core.Path.{◌≡◌, refl, sym, ap, subst, ◌∙◌}
 use mathlib.Core.List.{List, [], ◌∷◌}
-use mathlib.Core.Bool.{Bool, false, true}
+use mathlib.Core.Bool.{Bool, false}
 use mathlib.Core.Option.{some}
 use Prim.Native.Nat.{ℕ, zero, suc, ◌+◌, ◌^◌, ◌≤◌, ◌<◌}
 use lib.ListN.{length}
 use native.Mathlib.Omega.{arith}
-use borrow.Author.Tests.{le-leb, ne_eqb}
+use borrow.Author.Tests.{ne_eqb}
 use Rattle.tree.specs.Map.{Sep}
 use Rattle.tree.specs.Tree.{Kid, Tree, Zip, read_rest, read, none_of, slots, plug, at}
 use Rattle.tree.specs.Free.{occurs, in_store}

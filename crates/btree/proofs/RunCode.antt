@@ -1,11 +1,11 @@
 -- Each way through the functions of `records` (a law NAME-k is of the k-th return): what they answer and leave is what the
 -- mirrors (RunMirror of `outcome`) say. Assumes nothing.
 use mathlib.Core.Path.{◌≡◌, refl, sym, ap, subst, ◌∙◌}
-use mathlib.Core.List.{List, [], ◌∷◌}
-use mathlib.Core.Bool.{Bool, true, false, cond, not}
+use mathlib.Core.List.{List}
+use mathlib.Core.Bool.{Bool, true, false, not}
 use mathlib.Core.Option.{Option, none, some}
-use Prim.Native.Nat.{ℕ, zero, suc, ◌+◌, ◌-◌, ◌≤◌, ◌<◌}
-use lib.ListN.{length, take, drop}
+use Prim.Native.Nat.{ℕ, suc, ◌+◌, ◌≤◌, ◌<◌}
+use lib.ListN.{length}
 use lib.Dec.{leb}
 use native.Mathlib.Omega.{arith}
 use borrow.Author.Tests.{not-true, not-false, le-leb, lt-leb}
@@ -13,7 +13,6 @@ use Rattle.word.specs.Pick.{pick, pick_t, pick_f}
 use Rattle.word.specs.Key.{Key}
 use Rattle.tree.specs.Map.{Sep}
 use Rattle.tree.proofs.Cases.{by_bool}
-use Rattle.node.specs.declared.Child.{Child}
 use Rattle.node.specs.Chain.{longest_key}
 use Rattle.slots.specs.Limits.{most_depth}
 use Rattle.slots.specs.Layout.{root_of, depth_of, first_of}
@@ -31,7 +30,7 @@ use Rattle.outcome.specs.RemoveMirror as R
 use Rattle.outcome.specs.RemoveMirror.{remove_m, shrink_m, remove_key_m}
 use Rattle.outcome.specs.RunMirror as M
 use Rattle.outcome.specs.RunMirror.{Did, slots_needed_m, act_on, act_m}
-use Rattle.outcome.specs.Outcome.{outcome_with, no_sep, outcome_of, of_came, FitCame, Makes, came_of, of_fell, Does, Inserts, Removes, of_need}
+use Rattle.outcome.specs.Outcome.{no_sep, of_came, FitCame, Makes, came_of, of_fell, Does, Inserts, Removes, of_need}
 use Rattle.btree.specs.RunCode.{acted_of, Acts, finished, room_for, room_in, set_key, remove_key}
 use Rattle.btree.proofs.ChangeCode.{came_of_lem, other}
 use Rattle.btree.proofs.RoomChain.{set_with_room}

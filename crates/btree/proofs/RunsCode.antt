@@ -1,10 +1,10 @@
 -- The ways through `run` and `run_all`: the run at a place is the first of what is left, and the loop goes through all of them.
 -- Assumes nothing.
 use mathlib.Core.Path.{◌≡◌, refl, sym, ap, subst, ◌∙◌}
-use mathlib.Core.List.{List, [], ◌∷◌}
-use mathlib.Core.Bool.{Bool, true, false}
+use mathlib.Core.List.{List, []}
+use mathlib.Core.Bool.{true, false}
 use mathlib.Core.Option.{Option, none, some}
-use Prim.Native.Nat.{ℕ, zero, suc, ◌+◌, ◌-◌, ◌≤◌, ◌<◌}
+use Prim.Native.Nat.{ℕ, suc, ◌+◌, ◌-◌, ◌≤◌, ◌<◌}
 use lib.ListN.{length, take, drop}
 use native.Mathlib.Omega.{arith}
 use Rattle.word.specs.Pick.{pick, pick_t, pick_f}
@@ -17,16 +17,15 @@ use Rattle.changes.specs.declared.Change.{Change}
 use Rattle.changes.specs.declared.Checked.TheVariants.{Fine}
 use Rattle.changes.specs.declared.Run.{Run}
 use Rattle.changes.specs.Fit.{FitOp}
-use Rattle.changes.specs.Records.{most_records, longest_key, key_at, len_at, next_at, op_at, stands_at, rec_at, change_at, check_from, check_of, records_from, records_of}
+use Rattle.changes.specs.Records.{most_records, key_at, op_at, stands_at, change_at, check_from, check_of, records_from, records_of}
 use Rattle.changes.specs.Mirror.{flaw_at}
 use Rattle.changes.specs.RunAt.{run_at}
-use Rattle.changes.proofs.RecordLaws.{Sound, flaw_sound, sound_flaw, stands_true, change_within, key_lent, op_is}
+use Rattle.changes.proofs.RecordLaws.{flaw_sound, sound_flaw, stands_true, change_within, key_lent, op_is}
 use Rattle.changes.proofs.FineLaws.{Chain, ended, more, fine_chain, starts_before, records_ended, sound_fits}
 use Rattle.changes.proofs.RunsLaws.{FirstRun, first_run}
 use Rattle.btree.specs.declared.records.Acted.{Acted}
 use Rattle.btree.specs.declared.records.Acted.TheVariants as acted
 use Rattle.btree.specs.declared.records.Ran.{Ran}
-use Rattle.btree.specs.declared.records.Ended as code
 use Rattle.outcome.specs.RunMirror as M
 use Rattle.outcome.specs.RunMirror.{Did, act_m, Ended, onward_m, run_all_m}
 use Rattle.btree.specs.RunCode.{acted_of, Acts, Ends}

@@ -2,7 +2,6 @@
 use Rattle.std.specs.Prelude.{◌≡◌, List, cond, ℕ}
 use Rattle.std.proofs.Math.Option.{Option, none, some}
 use Rattle.word.specs.Key.{Key}
-use Rattle.tree.specs.Map.{Sep}
 use Rattle.slots.specs.Layout.{first_of}
 use Rattle.slots.specs.Code.{has_free}
 use Rattle.outcome.specs.declared.Came as code

@@ -1,6 +1,6 @@
 -- 01, "A batch": "Records: kind (1 set, 2 dereference), key length u16, value u64 (0 for kind 2), key. At most 65,535. Keys
 -- never fall". What bytes lent as a batch are, and what they say. Assumes nothing.
-use Rattle.std.specs.Prelude.{List, [], ◌∷◌, ◌++◌, Bool, true, false, not, ◌&&◌, ◌||◌, ℕ, zero, suc, ◌+◌, length, get_or, ltb, eqb}
+use Rattle.std.specs.Prelude.{List, [], ◌∷◌, ◌++◌, Bool, false, not, ◌||◌, ℕ, zero, suc, ◌+◌, length, get_or, ltb, eqb}
 use Rattle.std.proofs.Math.Option.{Option, none, some}
 use Rattle.word.specs.Pick.{pick}
 use Rattle.word.specs.Key.{Key, cmp, is_lt}

@@ -1,7 +1,6 @@
 -- The ways through `run_lines`. Assumes nothing.
-use mathlib.Core.Path.{◌≡◌, refl, sym, ap, subst, ◌∙◌}
+use mathlib.Core.Path.{◌≡◌, refl, ap, subst, ◌∙◌}
 use mathlib.Core.List.{List, [], ◌++◌}
-use mathlib.Core.Bool.{Bool, true, false}
 use mathlib.Core.Option.{Option, none, some}
 use Prim.Native.Nat.{ℕ, ◌-◌, ◌≤◌}
 use lib.ListN.{length, take, drop}
@@ -9,7 +8,7 @@ use lib.Seq.{take_at}
 use lib.Dec.{ltb}
 use native.Mathlib.Omega.{arith}
 use borrow.Author.Tests.{ltb-false}
-use Rattle.word.specs.Pick.{pick, by_test}
+use Rattle.word.specs.Pick.{by_test}
 use Rattle.word.specs.Num.{zeros}
 use Rattle.tree.specs.Batch.{Rec}
 use Rattle.changes.specs.Records.{encode_records}
@@ -18,7 +17,7 @@ use Rattle.lines.specs.Lines.{lines_of}
 use Rattle.lines.specs.Parses.{longest_text, parsed_number, parsed_length, fitting, taken, Leaves, Parses}
 use Rattle.batch.specs.declared.Answer.TheVariants.{BadText}
 use Rattle.batch.specs.declared.Batched.{Batched}
-use Rattle.batch.specs.Contract.{Refuses, Batches}
+use Rattle.batch.specs.Contract.{Batches}
 use Rattle.cikolaro.specs.Contract.{RunsLines}
 
 abbrev is_there : Option (List (Rec ℕ)) → ℕ

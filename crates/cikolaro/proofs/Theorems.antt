@@ -1,14 +1,12 @@
 -- The face's theorems: a refused call changes no byte of the store; one result of running lines. The batch's are in crate `batch`
 -- (Theorems, Nights), the audit's in `audit`, the walks' in `iter`, the node's in `codec`. Assumes nothing.
-use mathlib.Core.Path.{◌≡◌, refl, sym, ap, subst, ◌∙◌}
-use mathlib.Core.List.{List, ◌++◌}
-use mathlib.Core.Bool.{Bool, true, false}
+use mathlib.Core.Path.{◌≡◌, refl, sym, ◌∙◌}
+use mathlib.Core.List.{List}
 use mathlib.Core.Option.{Option, none, some}
-use Prim.Native.Nat.{ℕ, ◌-◌}
+use Prim.Native.Nat.{ℕ}
 use lib.ListN.{length}
-use native.Mathlib.Omega.{arith}
-use Rattle.word.specs.Pick.{pick, pick_t, pick_f}
-use Rattle.word.specs.Num.{Bytes, zeros}
+use Rattle.word.specs.Pick.{pick_t, pick_f}
+use Rattle.word.specs.Num.{Bytes}
 use Rattle.tree.specs.Batch.{Rec}
 use Rattle.tree.proofs.Cases.{by_bool}
 use Rattle.slots.specs.declared.Formatted.{Formatted}
@@ -16,7 +14,7 @@ use Rattle.slots.specs.Code.{has_size, format_number, Formats}
 use Rattle.changes.specs.Records.{encode_records}
 use Rattle.lines.specs.Parses.{taken}
 use Rattle.batch.specs.declared.Batched.{Batched}
-use Rattle.batch.specs.Contract.{answer_number, Refuses, Batches}
+use Rattle.batch.specs.Contract.{answer_number}
 use Rattle.batch.proofs.Theorems as batch
 use Rattle.cikolaro.specs.Contract.{RunsLines}
 use Rattle.cikolaro.specs.Called as face

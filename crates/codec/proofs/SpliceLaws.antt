@@ -2,7 +2,7 @@
 -- keys and by the place of the key before it. Assumes nothing.
 use mathlib.Core.Path.{◌≡◌, refl, sym, ap, ◌∙◌}
 use mathlib.Core.List.{List, [], ◌∷◌, ◌++◌, map, append_assoc}
-use mathlib.Core.Bool.{Bool, true, false, ◌&&◌, not}
+use mathlib.Core.Bool.{Bool, true, false, not}
 use Prim.Native.Nat.{ℕ, zero, suc, ◌+◌, ◌-◌, ◌≤◌, ◌<◌}
 use lib.ListN.{length, take, drop, get_or, replicate, length-append, length-map, take-append-drop}
 use lib.Seq.{take_at, drop_at, take-append-le, take-take, length-take-le}

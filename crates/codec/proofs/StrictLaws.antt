@@ -8,7 +8,7 @@ use Prim.Native.Nat.{ℕ, zero, suc, ◌+◌, ◌≤◌, ◌<◌}
 use lib.ListN.{length, get_or}
 use lib.Dec.{leb, ltb, eqb}
 use native.Mathlib.Omega.{arith}
-use borrow.Author.Tests.{eqb-true, eqb-false, eq-eqb, ltb-true, ltb-false, lt-ltb, le-leb}
+use borrow.Author.Tests.{eqb-true, eqb-false, ltb-true, ltb-false, lt-ltb, le-leb}
 use Rattle.word.specs.Pick.{pick, pick_t, pick_f, by_test}
 use Rattle.word.specs.Num.{Bytes}
 use Rattle.word.specs.At.{fits_in, read_at}

@@ -5,7 +5,7 @@ use mathlib.Core.List.{List, [], ◌∷◌, map, map-map}
 use mathlib.Core.Bool.{Bool, true, false, not}
 use mathlib.Core.Option.{Option, none, some}
 use Prim.Native.Nat.{ℕ, zero, suc, ◌+◌, ◌-◌, ◌≤◌, ◌<◌}
-use lib.ListN.{length, take, drop, get_or, replicate, length-map, length-drop, get_or-map, get_or-eq_default}
+use lib.ListN.{length, take, drop, get_or, replicate, length-map, length-drop, get_or-map}
 use lib.Dec.{ltb, eqb}
 use native.Mathlib.Omega.{arith}
 use borrow.Author.Tests.{not-true, not-false, le-leb, lt-leb, le-ltb, lt-ltb, ltb-true, ltb-false, eq-eqb, ne_eqb}

@@ -3,14 +3,14 @@
 use mathlib.Core.Path.{◌≡◌, refl, sym, ap, ◌∙◌}
 use mathlib.Core.List.{List, [], ◌∷◌}
 use mathlib.Core.Bool.{Bool, true, false, not}
-use mathlib.Core.Option.{Option, none, some}
-use Prim.Native.Nat.{ℕ, zero, suc, ◌+◌, ◌≤◌}
+use mathlib.Core.Option.{none, some}
+use Prim.Native.Nat.{ℕ, suc, ◌≤◌}
 use lib.ListN.{length, drop, get_or, length-map}
 use native.Mathlib.Omega.{arith}
 use borrow.Author.Tests.{not-true, not-false}
 use Rattle.word.specs.Key.{Key}
 use Rattle.tree.specs.Map.{Sep}
-use Rattle.tree.specs.Tree.{Node, seek, at, below, always}
+use Rattle.tree.specs.Tree.{seek, at, below, always}
 use Rattle.tree.proofs.Cases.{by_bool}
 use Rattle.node.specs.declared.Child.{Child}
 use Rattle.node.specs.declared.Node as struct

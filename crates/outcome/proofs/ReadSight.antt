@@ -2,24 +2,23 @@
 -- ReadPlaces says of the places. Assumes nothing.
 use mathlib.Core.Path.{◌≡◌, refl, ◌∙◌}
 use mathlib.Core.List.{List}
-use mathlib.Core.Bool.{Bool, true, false, not}
+use mathlib.Core.Bool.{true, false, not}
 use mathlib.Core.Option.{none, some}
 use Prim.Native.Nat.{ℕ}
-use lib.ListN.{length, get_or}
+use lib.ListN.{length}
 use borrow.Author.Tests.{not-false}
 use Rattle.word.specs.Key.{Key}
-use Rattle.tree.specs.Tree.{at, below, always}
+use Rattle.tree.specs.Tree.{at, below}
 use Rattle.codec.specs.Codec.{is_accepted}
-use Rattle.node.specs.Chain.{child_of}
 use Rattle.slots.specs.Code.{bytes_in, rest_in, node_in, places_at, read_node_at}
 use Rattle.search.specs.declared.Turn.{Turn}
-use Rattle.search.specs.declared.Turn.TheVariants.{NotBelow, Last}
+use Rattle.search.specs.declared.Turn.TheVariants.{NotBelow}
 use Rattle.search.specs.declared.Sight.{Sight}
-use Rattle.search.specs.Search.{turn_at, Sees}
+use Rattle.search.specs.Search.{Sees}
 use Rattle.slots.specs.Search.{SawAt, SeesAt}
 use Rattle.slots.proofs.SearchLaws.{sees_at}
 use Rattle.outcome.specs.Mirror.{is_next}
-use Rattle.outcome.proofs.ReadPlaces.{not_read, was_read, count_read, at_is, index_is, child_is, last_index, last_child_lem}
+use Rattle.outcome.proofs.ReadPlaces.{not_read, was_read, count_read, at_is, index_is, child_is}
 
 module _ (t : Turn) (s : List ℕ) (d x : ℕ) (k : Key) {v : Sight} (saw : SawAt t d s x k v) where
   seen : SeesAt t d s x k v

@@ -1,7 +1,7 @@
 -- What `insert` and what it calls do to the bytes of any store, with a node's contents as a chain: a proof device. A node is
 -- read on the way down, and read again where it is edited, since the call below has written meanwhile. The depth is one above
 -- the code's, so that a leaf is a node like any other: below it the separator itself comes back. Assumes nothing.
-use Rattle.std.specs.Prelude.{List, [], ◌∷◌, ◌++◌, Bool, false, cond, ℕ, zero, suc, ◌+◌, length, take, drop, leb, eqb}
+use Rattle.std.specs.Prelude.{List, [], ◌∷◌, ◌++◌, Bool, false, cond, ℕ, zero, suc, length, take, drop, leb, eqb}
 use Rattle.std.proofs.Math.Option.{Option, none, some}
 use Rattle.word.specs.Key.{Key}
 use Rattle.tree.specs.Map.{Sep}

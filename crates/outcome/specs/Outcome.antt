@@ -4,7 +4,7 @@ use Rattle.std.specs.Prelude.{◌≡◌, List, [], ◌∷◌, Bool, true, false,
 use Rattle.std.proofs.Math.Option.{Option, none, some}
 use Rattle.word.specs.Key.{Key}
 use Rattle.tree.specs.Map.{Sep}
-use Rattle.tree.specs.Tree.{Node, Zip, at, always, plug}
+use Rattle.tree.specs.Tree.{Node, at, always, plug}
 use Rattle.node.specs.Chain.{Step, longest_key, Fit}
 use Rattle.node.specs.Edit.{separator_of}
 use Rattle.slots.specs.Mirror.{write_node}

@@ -1,6 +1,6 @@
 -- What `on_existing`, `remove_last`, `rebalance` and what they call do to the bytes of any store: a proof device, as Mirror.
 -- Assumes nothing.
-use Rattle.std.specs.Prelude.{List, [], ◌∷◌, ◌++◌, Bool, true, false, cond, ℕ, zero, suc, ◌+◌, length, take, drop, leb, ltb, eqb}
+use Rattle.std.specs.Prelude.{List, [], ◌∷◌, ◌++◌, Bool, true, false, cond, ℕ, zero, suc, length, leb, ltb}
 use Rattle.std.proofs.Math.Option.{Option, none, some}
 use Rattle.word.specs.Key.{Key}
 use Rattle.tree.specs.Map.{Sep}

@@ -1,5 +1,5 @@
 -- The room test, one run, and all runs of a batch, on the bytes of any store: a proof device, as Mirror. Assumes nothing.
-use Rattle.std.specs.Prelude.{List, [], ◌∷◌, Bool, true, false, cond, ℕ, zero, suc, ◌+◌, length, leb, eqb}
+use Rattle.std.specs.Prelude.{List, [], ◌∷◌, cond, ℕ, zero, suc, ◌+◌, length, leb, eqb}
 use Rattle.std.proofs.Math.Option.{Option, none, some}
 use Rattle.word.specs.Key.{Key}
 use Rattle.tree.specs.Map.{Sep}

@@ -12,7 +12,6 @@ use borrow.Author.Tests.{le-leb, leb-true}
 use Rattle.word.specs.Part.{part, over}
 use Rattle.word.specs.Num.{le, un, zeros}
 use Rattle.word.specs.At.{read_at, write_at}
-use Rattle.word.specs.Pick.{pick_t}
 use Rattle.word.proofs.PartLaws.{length_part, length_over, over_in, over_nest, part_seam, over_seam, cover}
 use Rattle.word.proofs.NumLaws.{length_le, un_le, length_zeros, zeros_append}
 use Rattle.word.proofs.AtLaws.{read_at_in, read_at_same, write_at_in, length_write_at}

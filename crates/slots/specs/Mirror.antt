@@ -1,10 +1,10 @@
 -- What the functions of this crate read and leave, with a node's contents as a chain. The contracts of `is_slot`, `take_slot`,
 -- `free_slot` and `set_root` cite it; reading and writing a node are said of the code's structs in Code, tied to this by laws.
 -- Assumes nothing.
-use Rattle.std.specs.Prelude.{List, [], Bool, cond, ◌&&◌, ℕ, ◌+◌, ◌*◌, ◌-◌, length, leb}
+use Rattle.std.specs.Prelude.{List, Bool, cond, ◌&&◌, ℕ, ◌+◌, ◌*◌, ◌-◌, length, leb}
 use Rattle.std.proofs.Math.Option.{Option, none, some}
 use Rattle.word.specs.Part.{part, over}
-use Rattle.word.specs.Num.{le, zeros}
+use Rattle.word.specs.Num.{zeros}
 use Rattle.word.specs.At.{read_at, write_at}
 use Rattle.tree.specs.Tree.{Node}
 use Rattle.codec.specs.Codec.{encode, Decoded, refused, accepted}

@@ -1,7 +1,7 @@
 -- The bytes of a store and the state of crate `tree` that they stand for; what the audit asks of bytes. Assumes nothing.
 use Rattle.std.specs.Prelude.{◌≡◌, List, [], ◌∷◌, ℕ, zero, suc, ◌+◌, ◌*◌, ◌≤◌, length}
 use Rattle.tree.specs.Map.{Sep}
-use Rattle.tree.specs.Tree.{Node, Kid, Tree}
+use Rattle.tree.specs.Tree.{Node, Kid}
 use Rattle.tree.specs.Free.{first_free}
 use Rattle.tree.specs.State.{State, AllRight, Store, bare, rooted, GoodStore}
 use Rattle.node.specs.Chain.{Writable}

@@ -1,6 +1,6 @@
 -- What the functions of `word` answer and leave, over the width where there is one. What doesn't lie within the bytes
 -- reads as 0, is not written, and is not all zero. Assumes nothing.
-use Rattle.std.specs.Prelude.{List, Bool, true, false, ℕ, ◌+◌, length, leb}
+use Rattle.std.specs.Prelude.{List, Bool, false, ℕ, ◌+◌, length, leb}
 use Rattle.word.specs.Pick.{pick}
 use Rattle.word.specs.Part.{part, over}
 use Rattle.word.specs.Num.{le, un, zeros, all_zero}

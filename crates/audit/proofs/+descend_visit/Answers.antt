@@ -4,7 +4,6 @@ use Rattle.audit.specs.Code.{key_of}
 use Rattle.audit.proofs.VisitCode.{visit_1, visit_2, visit_entered, keys_fit, few_separators, eight_starts, eight_lens, nine_children, visit_start, visit_stops, visit_falls, visit_turn, visit_ends}
 use native.Mathlib.Omega.{arith}
 use borrow.Author.Rules.{rules}
-use Prim.Native.Nat.{◌-◌}
 use Rattle.audit.proofs.+descend_visit.Goals as goal
 
 pub descend-returns-then-height-eq0 : goal.descend-returns-then-height-eq0

@@ -1,5 +1,4 @@
 use mathlib.Core.Path.{refl}
-use Prim.Native.Nat.{◌-◌}
 use native.Mathlib.Omega.{arith}
 use Rattle.audit.proofs.CodeLaws.{count_start, count_next, count_short, count_end, ones_few}
 use Rattle.audit.proofs.count_marks.Goals as goal

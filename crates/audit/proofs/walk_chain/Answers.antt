@@ -1,4 +1,3 @@
-use Prim.Native.Nat.{◌-◌}
 use Rattle.audit.proofs.ChainCode.{chain_start, chain_ends, chain_last, chain_used, chain_marked, chain_turn}
 use native.Mathlib.Omega.{arith}
 use borrow.Author.Rules.{rules}

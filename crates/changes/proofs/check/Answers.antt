@@ -1,4 +1,3 @@
-use Prim.Native.Nat.{◌-◌}
 use Rattle.changes.proofs.RecordLaws.{change_within}
 use Rattle.changes.proofs.CheckLaws.{check_start, check_1, check_2, check_3, check_4, check_whole, check_turn}
 use native.Mathlib.Omega.{arith}

@@ -1,4 +1,3 @@
-use Prim.Native.Nat.{◌-◌}
 use Rattle.changes.proofs.RunAtLaws.{run_none, run_start, run_ended, run_turn, run_end}
 use native.Mathlib.Omega.{arith}
 use Rattle.changes.proofs.run_end.Goals as goal

@@ -1,4 +1,3 @@
-use Prim.Native.Nat.{◌-◌}
 use borrow.Author.Tests.{lt-ltb, le-ltb}
 use Rattle.codec.specs.Layout.{is_long}
 use Rattle.codec.proofs.WriteLaws.{any_start, any_none, any_here, any_turn, any_past}

@@ -1,4 +1,3 @@
-use Prim.Native.Nat.{◌-◌}
 use borrow.Author.Tests.{eq-eqb, ne_eqb}
 use Rattle.node.specs.Chain.{value_of}
 use Rattle.codec.specs.Layout.{is_none}

@@ -1,4 +1,3 @@
-use Prim.Native.Nat.{◌-◌}
 use mathlib.Core.Path.{◌∙◌}
 use Rattle.codec.proofs.EncodeLaws.{sep_bound}
 use Rattle.codec.proofs.WriteLaws.{measure_1, measure_2, measure_3, measure_4, measure_short, width_start, width_turn}

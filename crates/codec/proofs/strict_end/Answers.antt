@@ -1,4 +1,3 @@
-use Prim.Native.Nat.{◌-◌}
 use Rattle.word.proofs.AtLaws.{fitted}
 use Rattle.codec.proofs.ScanLaws.{head_within}
 use Rattle.codec.proofs.StrictCode.{strict_start, strict_short, strict_whole, strict_ends, strict_low, strict_turn, strict_last}

@@ -1,4 +1,3 @@
-use Prim.Native.Nat.{◌-◌}
 use mathlib.Core.Path.{◌∙◌}
 use Rattle.codec.proofs.ReadLaws.{count_few, copied_start, copied_next, read_done}
 use native.Mathlib.Omega.{arith}

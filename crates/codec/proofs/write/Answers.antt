@@ -1,4 +1,3 @@
-use Prim.Native.Nat.{◌-◌}
 use mathlib.Core.Path.{◌∙◌}
 use Rattle.node.specs.Chain.{first_of}
 use Rattle.codec.proofs.WriteLaws.{measured_fine, write_start, write_keeps, next_within, left_length, write_turn, write_end, write_refused, write_short, write_done}

@@ -1,4 +1,3 @@
-use Prim.Native.Nat.{◌-◌}
 use Rattle.lines.proofs.DigitLaws.{decimal_1, decimal_2, decimal_3, decimal_4, decimal_5, decimal_start, decimal_turn}
 use native.Mathlib.Omega.{arith}
 use Rattle.lines.proofs.decimal.Goals as goal

@@ -1,4 +1,3 @@
-use Prim.Native.Nat.{◌-◌}
 use Rattle.lines.proofs.CutLaws.{find_start, find_here, find_turn, find_end}
 use native.Mathlib.Omega.{arith}
 use Rattle.lines.proofs.find.Goals as goal

@@ -1,5 +1,4 @@
 use mathlib.Core.Path.{refl}
-use Prim.Native.Nat.{◌-◌}
 use lib.ListN.{length-set}
 use Rattle.word.proofs.AtLaws.{fitted}
 use Rattle.lines.proofs.WriteLaws.{at_least_1, decimal_out, stand_start, stand_some, stand_within, stand_turn, stand_end}

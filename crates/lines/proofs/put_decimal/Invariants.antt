@@ -1,6 +1,6 @@
 -- `lines::put_decimal` meets its contract. The loop: the last digits stand at their place. Assumes nothing.
 use mathlib.Core.Path.{◌≡◌}
-use Prim.Native.Nat.{◌≤◌, ◌<◌, ◌+◌, ◌-◌, ◌^◌}
+use Prim.Native.Nat.{◌≤◌, ◌<◌, ◌+◌, ◌^◌}
 use lib.ListN.{length}
 use Rattle.lines.specs.Digits.{decimal_of}
 use Rattle.lines.proofs.WriteLaws.{Standing}

@@ -1,5 +1,4 @@
 use mathlib.Core.Path.{refl}
-use Prim.Native.Nat.{◌-◌}
 use lib.ListN.{length-set}
 use Rattle.lines.proofs.WriteLaws.{hex_out, hex_start, hex_turn, hex_end}
 use native.Mathlib.Omega.{arith}

@@ -1,5 +1,4 @@
 use mathlib.Core.Path.{refl, ◌∙◌}
-use Prim.Native.Nat.{◌-◌}
 use Rattle.lines.proofs.LinesLaws.{lines_start, lines_1, lines_2, lines_turn, lines_end, line_within}
 use native.Mathlib.Omega.{arith}
 use Rattle.lines.proofs.put_lines.Goals as goal

@@ -1,5 +1,4 @@
 use mathlib.Core.Path.{refl}
-use Prim.Native.Nat.{◌-◌}
 use lib.ListN.{length-set}
 use Rattle.word.proofs.AtLaws.{fitted}
 use Rattle.changes.proofs.RecordLaws.{impossible}

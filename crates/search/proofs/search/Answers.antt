@@ -1,4 +1,3 @@
-use Prim.Native.Nat.{◌-◌}
 use mathlib.Core.Path.{ap}
 use Rattle.word.proofs.AtLaws.{fitted}
 use Rattle.search.specs.declared.Sight.{Sight}

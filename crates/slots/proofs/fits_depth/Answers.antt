@@ -1,4 +1,3 @@
-use Prim.Native.Nat.{◌-◌}
 use Rattle.slots.proofs.CodeLaws.{fit_start, fit_1, fit_2, fit_3, fit_turn}
 use native.Mathlib.Omega.{arith}
 use Rattle.slots.proofs.fits_depth.Goals as goal

@@ -1,4 +1,3 @@
-use Prim.Native.Nat.{◌-◌}
 use Rattle.slots.proofs.CodeLaws.{free_start, free_none, free_turn, free_end}
 use native.Mathlib.Omega.{arith}
 use borrow.Author.Rules.{rules}

@@ -1,5 +1,4 @@
 use mathlib.Core.Path.{sym, ◌∙◌}
-use Prim.Native.Nat.{◌-◌}
 use native.Mathlib.Omega.{arith}
 use Rattle.word.proofs.PartLaws.{length_part_cut}
 use Rattle.word.proofs.NumLaws.{bytes_of}

@@ -1,5 +1,4 @@
 use mathlib.Core.Path.{sym}
-use Prim.Native.Nat.{◌-◌}
 use native.Mathlib.Omega.{arith}
 use Rattle.word.proofs.AtLaws.{fitted, unfitted, zero_at_out}
 use Rattle.word.proofs.CodeLaws.{zero_start, zero_turn, zero_end}

@@ -1,5 +1,4 @@
 use mathlib.Core.Path.{refl}
-use Prim.Native.Nat.{◌-◌}
 use Rattle.btree.proofs.RunsCode.{runs_start, runs_end, runs_over, runs_bad, runs_no_room, runs_turn}
 use native.Mathlib.Omega.{arith}
 use Rattle.btree.proofs.records.run_all.Goals as goal

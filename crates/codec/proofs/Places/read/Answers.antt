@@ -1,4 +1,3 @@
-use Prim.Native.Nat.{◌-◌}
 use Rattle.word.proofs.AtLaws.{fitted}
 use Rattle.codec.proofs.ScanLaws.{head_within}
 use Rattle.codec.proofs.FillLaws.{read_start, read_short, read_whole, read_ended, read_turn, last_short, last_whole, last_ignored}

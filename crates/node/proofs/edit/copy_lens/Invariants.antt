@@ -1,5 +1,4 @@
 -- `node::edit::copy_lens` meets its contract. The loop: what is left to copy makes the whole. Assumes nothing.
-use Prim.Native.Nat.{◌-◌}
 use mathlib.Core.Path.{◌≡◌}
 use lib.ListN.{length}
 use Rattle.node.specs.EditMirror.{copied}

@@ -1,4 +1,3 @@
-use Prim.Native.Nat.{◌-◌}
 use mathlib.Core.Path.{refl, sym}
 use lib.ListN.{length-set}
 use Rattle.word.proofs.AtLaws.{copy_at_short}

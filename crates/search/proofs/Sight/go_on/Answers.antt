@@ -1,4 +1,3 @@
-use Prim.Native.Nat.{◌-◌}
 use Rattle.word.proofs.AtLaws.{fitted}
 use Rattle.codec.proofs.ScanLaws.{head_within}
 use Rattle.search.proofs.SearchCode.{on_short, on_misfit, on_whole, on_end, on_low, on_spot, on_last}
