@@ -1,6 +1,6 @@
 -- One record at a place: when a whole one stands there, what the code reads of it, and when it has no flaw of its own. Read the
 -- files of this folder in the order RecordLaws, CheckLaws, RunAtLaws (for the functions' proofs); FineLaws, WrittenLaws, ReadLaws,
--- RunsLaws, Table (what the definitions say: `fine_records`, `Written-Read`, `too_many`, `read_written_lem`, `first_run`, `refused`).
+-- RunsLaws, Table (what the definitions say: `fine_records`, `written_read`, `too_many`, `read_written_lem`, `first_run`, `refused`).
 -- Assumes nothing.
 use mathlib.Core.Path.{◌≡◌, refl, sym, ap, ◌∙◌}
 use mathlib.Core.List.{List}
