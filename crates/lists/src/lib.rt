@@ -5,9 +5,9 @@
 // fault of that code.
 #![tactic(auto)]
 
-ghost use Rattle.std.specs.Prelude.{◌≡◌, ℕ, ◌++◌, ◌<◌, ◌≤◌, true, length, slice_index, decimal, IfOk, OnOk};
+ghost use Rattle.std.specs.Prelude.{◌≡◌, List, ℕ, ◌++◌, ◌<◌, ◌≤◌, true, length, slice_index, decimal, IfOk, OnOk};
 ghost use Rattle.std.specs.Counts.{IsPrefixLen};
-ghost use Rattle.std.specs.Io.KnownBytes.{Appends};
+ghost use Rattle.std.specs.Io.KnownBytes.{Appends, Consumes};
 ghost use Rattle.lists.specs.Within.{Within};
 
 use std::io;
@@ -105,15 +105,20 @@ pub fn filled(s: &[u8], from: usize, b: u8) -> bool
 }
 
 // A number of four bytes, read from a file: how many blocks follow, or how long a block is; 0 where the file ends before.
-pub fn read_number<R: Read>(file: &mut R) -> io::Result<usize> {
+// An error is the file's own, and the file has moved on by what was read before it.
+pub fn read_number<R: Read>(file: &mut R) -> io::Result<usize>
+    ensures moved_on { (taken : List ℕ) × Consumes (R.remaining file.old) (R.remaining file.new) taken }
+{
     let mut four = [0u8; 4];
     let got = input::read_full(file, &mut four)?;
     Ok(number(&four[..got], 0, 4) as usize)
 }
 
 // Reads the next block to the front of buf and answers its length; 0 where it isn't there whole or is too long.
+// An error is the file's own, and the file has moved on by what was read before it; buf may have some of that.
 pub fn read_block<R: Read>(file: &mut R, buf: &mut [u8]) -> io::Result<usize>
-    ensures { IfOk result (λ n. IsPrefixLen n buf.new) }
+    ensures within { IfOk result (λ n. IsPrefixLen n buf.new) }
+    ensures moved_on { (taken : List ℕ) × Consumes (R.remaining file.old) (R.remaining file.new) taken }
 {
     let len = read_number(file)?;
     if buf.len() < len {
