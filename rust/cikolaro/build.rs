@@ -1,4 +1,4 @@
-//! Finds the archive of proved functions that `rt lib` writes in crates/capi.
+//! Finds the archive of proved functions that `tools/archive` writes.
 
 use std::env;
 use std::path::{Path, PathBuf};
@@ -7,8 +7,8 @@ use std::process::exit;
 /// Names the folder in which `libcapi.a` lies.
 const OVERRIDE: &str = "CIKOLARO_ARCHIVE";
 
-/// Where it lies after `rt lib`, seen from this crate.
-const IN_THE_PROJECT: &str = "../../crates/capi/out";
+/// Where it lies after `tools/archive`, seen from this crate.
+const IN_THE_PROJECT: &str = "../../target/staticlib";
 
 const ARCHIVE: &str = "libcapi.a";
 
@@ -20,7 +20,7 @@ fn main() {
     };
     let archive = folder.join(ARCHIVE);
     if !archive.exists() {
-        eprintln!("{} isn't there: run `rt lib` in crates/capi, or name its folder in {OVERRIDE}", archive.display());
+        eprintln!("{} isn't there: run `tools/archive`, or name its folder in {OVERRIDE}", archive.display());
         exit(1);
     }
     println!("cargo:rerun-if-changed={}", archive.display());

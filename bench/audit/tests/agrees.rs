@@ -1,5 +1,5 @@
 //! The proved audit, as it is exported, beside our reading of 01. It needs the
-//! archive of `rt lib` in crates/capi.
+//! archive of `tools/archive`.
 
 use audit_bench::grown::{self, Filling, Shape};
 use audit_bench::layout::{put_u32, HEADER, SLOT};

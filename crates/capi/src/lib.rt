@@ -18,16 +18,14 @@ use lent::{
 };
 use node::Node;
 
-#[unsafe(no_mangle)]
-pub extern "C" fn cikolaro_format(store: &mut [u8], count: u32) -> u32
+pub fn cikolaro_format(store: &mut [u8], count: u32) -> u32
     ensures { FormatsBy store.old count result store.new }
 {
     let formatted = cikolaro::format(store, count);
     formatted.number()
 }
 
-#[unsafe(no_mangle)]
-pub extern "C" fn cikolaro_audit(store: &[u8], marks: &mut [u64], reached: &mut usize) -> u32
+pub fn cikolaro_audit(store: &[u8], marks: &mut [u64], reached: &mut usize) -> u32
     ensures { AuditsBy store.now marks.old result marks.new reached.new }
 {
     let verdict = cikolaro::audit(store, marks);
@@ -35,8 +33,7 @@ pub extern "C" fn cikolaro_audit(store: &[u8], marks: &mut [u64], reached: &mut 
     verdict.number()
 }
 
-#[unsafe(no_mangle)]
-pub extern "C" fn cikolaro_batch(
+pub fn cikolaro_batch(
     store: &mut [u8],
     marks: &mut [u64],
     records: &[u8],
@@ -52,8 +49,7 @@ pub extern "C" fn cikolaro_batch(
 
 // ---- house lines
 
-#[unsafe(no_mangle)]
-pub extern "C" fn cikolaro_parse(text: &[u8], records: &mut [u8], len: &mut usize) -> u32
+pub fn cikolaro_parse(text: &[u8], records: &mut [u8], len: &mut usize) -> u32
     ensures { ParsesBy text.now records.old result records.new len.new }
 {
     let parsed = cikolaro::parse(text, records);
@@ -61,8 +57,7 @@ pub extern "C" fn cikolaro_parse(text: &[u8], records: &mut [u8], len: &mut usiz
     parsed.number()
 }
 
-#[unsafe(no_mangle)]
-pub extern "C" fn cikolaro_run_lines(
+pub fn cikolaro_run_lines(
     store: &mut [u8],
     marks: &mut [u64],
     records: &mut [u8],
@@ -79,13 +74,7 @@ pub extern "C" fn cikolaro_run_lines(
 
 // ---- lookup
 
-#[unsafe(no_mangle)]
-pub extern "C" fn cikolaro_lookup(
-    store: &[u8],
-    key: &[u8],
-    present: &mut u32,
-    value: &mut u64,
-) -> u32
+pub fn cikolaro_lookup(store: &[u8], key: &[u8], present: &mut u32, value: &mut u64) -> u32
     ensures { LooksUp (lookup_of store.now key.now) result present.new value.new }
 {
     let looked = cikolaro::lookup(store, key);
@@ -96,13 +85,7 @@ pub extern "C" fn cikolaro_lookup(
 
 // ---- the cursor
 
-#[unsafe(no_mangle)]
-pub extern "C" fn cikolaro_seek(
-    key: &[u8],
-    kind: &mut u32,
-    len: &mut usize,
-    held: &mut [u8; 288],
-) -> u32
+pub fn cikolaro_seek(key: &[u8], kind: &mut u32, len: &mut usize, held: &mut [u8; 288]) -> u32
     ensures { Seeks (sought_of key.now) kind.old len.old held.old result kind.new len.new held.new }
 {
     let sought = cikolaro::seek(key);
@@ -111,8 +94,7 @@ pub extern "C" fn cikolaro_seek(
     number
 }
 
-#[unsafe(no_mangle)]
-pub extern "C" fn cikolaro_forward(
+pub fn cikolaro_forward(
     store: &[u8],
     kind: &mut u32,
     len: &mut usize,
@@ -134,8 +116,7 @@ pub extern "C" fn cikolaro_forward(
     answer_step(stepped, kind, len, held, present, value)
 }
 
-#[unsafe(no_mangle)]
-pub extern "C" fn cikolaro_backward(
+pub fn cikolaro_backward(
     store: &[u8],
     kind: &mut u32,
     len: &mut usize,
@@ -159,8 +140,7 @@ pub extern "C" fn cikolaro_backward(
 
 // ---- node bytes, read where they stand: keys are named as parts of them
 
-#[unsafe(no_mangle)]
-pub extern "C" fn cikolaro_node_read(bytes: &[u8], count: &mut usize) -> u32
+pub fn cikolaro_node_read(bytes: &[u8], count: &mut usize) -> u32
     ensures { ReadsNode (places_of bytes.now) result count.new }
 {
     let places = Places::read(bytes);
@@ -169,15 +149,13 @@ pub extern "C" fn cikolaro_node_read(bytes: &[u8], count: &mut usize) -> u32
     ending.number()
 }
 
-#[unsafe(no_mangle)]
-pub extern "C" fn cikolaro_node_child(bytes: &[u8], index: usize) -> u64
+pub fn cikolaro_node_child(bytes: &[u8], index: usize) -> u64
     ensures { result ≡ (within 8 (places_of bytes.now).children index (child_of 0)).0 }
 {
     child_at(Places::read(bytes), index)
 }
 
-#[unsafe(no_mangle)]
-pub extern "C" fn cikolaro_node_separator(
+pub fn cikolaro_node_separator(
     bytes: &[u8],
     index: usize,
     start: &mut usize,
@@ -196,12 +174,7 @@ pub extern "C" fn cikolaro_node_separator(
 
 // ---- the same by the strict reading
 
-#[unsafe(no_mangle)]
-pub extern "C" fn cikolaro_node_read_strict(
-    bytes: &[u8],
-    count: &mut usize,
-    place: &mut usize,
-) -> u32
+pub fn cikolaro_node_read_strict(bytes: &[u8], count: &mut usize, place: &mut usize) -> u32
     ensures { ReadsStrict bytes.now result count.new place.new }
 {
     let standard = Places::read_standard(bytes);
@@ -212,8 +185,7 @@ pub extern "C" fn cikolaro_node_read_strict(
     ending.number()
 }
 
-#[unsafe(no_mangle)]
-pub extern "C" fn cikolaro_node_separator_strict(
+pub fn cikolaro_node_separator_strict(
     bytes: &[u8],
     index: usize,
     start: &mut usize,
@@ -233,8 +205,7 @@ pub extern "C" fn cikolaro_node_separator_strict(
 
 // ---- a node to be written
 
-#[unsafe(no_mangle)]
-pub extern "C" fn cikolaro_node_write(
+pub fn cikolaro_node_write(
     count: usize,
     children: &[u64; 9],
     values: &[u64; 8],

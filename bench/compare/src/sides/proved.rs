@@ -1,4 +1,4 @@
-//! The proved library, as `rt lib` in crates/capi exports it.
+//! The proved library, as `tools/archive` exports it.
 
 use super::slots::Face;
 use super::{Tally, PROVED};
