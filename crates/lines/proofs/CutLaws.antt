@@ -1,6 +1,6 @@
 -- A text cut at the first byte of a kind, and the ways through `find`. Read the files of this folder in the order CutLaws,
 -- DigitLaws, HexLaws, PutLaws, LinesLaws (`parse`); WriteLaws (`write_entry`, `write_refused`); ReadBack, Bounds, Same, Table
--- (what the definitions say: `sets_back`, `key_fits`, `records_fit`, `same_parse`, `read`). Assumes nothing.
+-- (what the definitions say: `sets_back`, `key_fits`, `records_fit`, `same_parse`, `read_lem`). Assumes nothing.
 use mathlib.Core.Path.{◌≡◌, refl, sym, ap, ◌∙◌}
 use mathlib.Core.List.{List, [], ◌∷◌}
 use mathlib.Core.Bool.{true, false}

@@ -5,7 +5,7 @@
 // fault of that code.
 #![tactic(auto)]
 
-ghost use Rattle.std.specs.Prelude.{◌≡◌, List, ℕ, ◌++◌, ◌<◌, ◌≤◌, true, length, slice_index, decimal, IfOk, OnOk};
+ghost use Rattle.std.specs.Prelude.{◌≡◌, List, ℕ, ◌++◌, ◌<◌, ◌≤◌, true, length, take, slice_index, decimal, IfOk, OnOk};
 ghost use Rattle.std.specs.Counts.{IsPrefixLen};
 ghost use Rattle.std.specs.Io.KnownBytes.{Appends, Consumes};
 ghost use Rattle.lists.specs.Within.{Within};
@@ -115,10 +115,10 @@ pub fn read_number<R: Read>(file: &mut R) -> io::Result<usize>
 }
 
 // Reads the next block to the front of buf and answers its length; 0 where it isn't there whole or is too long.
-// An error is the file's own, and the file has moved on by what was read before it; buf may have some of that.
+// An error is the file's own, and none of what was read before it is lost: it is the head of the block and the front of buf.
 pub fn read_block<R: Read>(file: &mut R, buf: &mut [u8]) -> io::Result<usize>
     ensures within { IfOk result (λ n. IsPrefixLen n buf.new) }
-    ensures moved_on { (taken : List ℕ) × Consumes (R.remaining file.old) (R.remaining file.new) taken }
+    ensures none_lost { (head : List ℕ) × (k : ℕ) × Consumes (R.remaining file.old) (R.remaining file.new) (head ++ take k buf.new) }
 {
     let len = read_number(file)?;
     if buf.len() < len {
@@ -128,7 +128,7 @@ pub fn read_block<R: Read>(file: &mut R, buf: &mut [u8]) -> io::Result<usize>
     if got == len { Ok(len) } else { Ok(0) }
 }
 
-// Writes a text and a number behind it.
+// Writes a text and a number behind it. An error is the writer's own; what was written before it stays written.
 pub fn say<W: Write>(out: &mut W, text: &[u8], n: u64) -> io::Result<()>
     ensures { OnOk result (Appends (W.contents out.old) (W.contents out.new) (text.now ++ decimal n)) }
 {

@@ -71,6 +71,7 @@ fn say_others<W: Write>(out: &mut W, store: &[u8], root: u64) -> io::Result<()> 
 }
 
 // The root behind its first child and before the others. No night's tree is deeper, and one that is shows it by its depth.
+// An error is the writer's own; what was written before it stays written.
 pub fn say_tree<W: Write>(out: &mut W, store: &[u8]) -> io::Result<()> {
     let root = lists::number(store, 0, 8);
     let depth = lists::number(store, DEPTH_AT, 4);
@@ -86,6 +87,7 @@ pub fn say_tree<W: Write>(out: &mut W, store: &[u8]) -> io::Result<()> {
 }
 
 // "A free slot: u32 0, u32 next free slot (0 last)"; a chain that doesn't end is cut behind as many slots as there are.
+// An error is the writer's own; what was written before it stays written.
 pub fn say_free<W: Write>(out: &mut W, store: &[u8]) -> io::Result<()> {
     out.write_all(b"free:")?;
     let count = lists::number(store, COUNT_AT, 4);

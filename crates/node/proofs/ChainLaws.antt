@@ -22,14 +22,14 @@ module _ {A : Type 0} where
   get_or_repeated (suc n) zero z = refl
   get_or_repeated (suc n) (suc i) z = get_or_repeated n i z
 
-  get_d_front : (l : List A) (n i : ℕ) (z : A) → get_or (l ++ replicate n z) i z ≡ get_or l i z
-  get_d_front [] n i z = get_or_repeated n i z
-  get_d_front (x ∷ l) n zero z = refl
-  get_d_front (x ∷ l) n (suc i) z = get_d_front l n i z
+  get_or_front : (l : List A) (n i : ℕ) (z : A) → get_or (l ++ replicate n z) i z ≡ get_or l i z
+  get_or_front [] n i z = get_or_repeated n i z
+  get_or_front (x ∷ l) n zero z = refl
+  get_or_front (x ∷ l) n (suc i) z = get_or_front l n i z
 
   pub get_or_padded : (n : ℕ) (z : A) (l : List A) (i : ℕ) → get_or (padded n z l) i z ≡ get_or l i z
   unfolding padded
-  get_or_padded n z l i = get_d_front l (n - length l) i z
+  get_or_padded n z l i = get_or_front l (n - length l) i z
 
   -- the element behind p
   pub get_or_mapped : {B : Type 0} (f : A → B) (z : B) (p : List A) (x : A) (q : List A) → get_or (map f (p ++ x ∷ q)) (length p) z ≡ f x

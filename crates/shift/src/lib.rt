@@ -84,7 +84,7 @@ pub fn run<W: Write>(out: &mut W, text: &[u8]) -> io::Result<()> {
     say_entries(out, &store)
 }
 
-// The text on standard input, to standard output.
+// The text on standard input, to standard output. An error is that of either; where the input fails, nothing is run.
 pub fn run_input(rt: &(impl Input + Print)) -> io::Result<()> {
     // one byte more than a text may have, so that a longer one is seen to be
     let mut text = [0u8; 16385];
