@@ -1,4 +1,4 @@
-// How an answer, a cursor and a node lie in lent numbers. The functions exported for C and Rust (crate `capi`) leave what they
+// How an answer, a cursor and a node lie in lent numbers. The functions for C and Rust (crates `capi` and `capi_c`) leave what they
 // answer by these, and take by these what they are lent.
 #![tactic(auto)]
 

@@ -14,7 +14,7 @@ const SET: u8 = 1;
 const DEREFERENCE: u8 = 2;
 
 // 01's number, and how many records were applied.
-#[derive(Drop)]
+#[derive(Clone, Copy)]
 pub struct Answer {
     pub number: u32,
     pub applied: usize,

@@ -16,14 +16,14 @@ use iter::{Cursor, LookedUp, Place, Step};
 use lists::Span;
 
 // Whether the answer was the list's, and the cursor after it.
-#[derive(Drop)]
+#[derive(Clone, Copy)]
 struct Outcome {
     agreed: bool,
     cursor: Cursor,
 }
 
 // The entries so far: where the block goes on, the cursor at the last of them, its key and its value, 0 for none.
-#[derive(Drop)]
+#[derive(Clone, Copy)]
 struct Passed {
     at: usize,
     count: Count,
@@ -33,7 +33,7 @@ struct Passed {
 }
 
 // A walk so far: where the block goes on, its cases, and the cursor.
-#[derive(Drop)]
+#[derive(Clone, Copy)]
 pub struct Walked {
     pub at: usize,
     pub count: Count,

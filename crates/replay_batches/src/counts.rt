@@ -8,14 +8,14 @@ pub struct Count {
 }
 
 // The cases of a part of a block, and where the block goes on behind it.
-#[derive(Drop)]
+#[derive(Clone, Copy)]
 pub struct Section {
     pub count: Count,
     pub end: usize,
 }
 
 // A batch: whether it answered as the list has it and whether it answered 9; what the store held, and what it was asked.
-#[derive(Drop)]
+#[derive(Clone, Copy)]
 pub struct Batch {
     pub agreed: bool,
     pub full: bool,
@@ -26,7 +26,7 @@ pub struct Batch {
 }
 
 // The whole replay: the blocks read, the batches that answered 9, and the disagreements named.
-#[derive(Drop)]
+#[derive(Clone, Copy)]
 pub struct Totals {
     pub blocks: u64,
     pub full: u64,
@@ -68,7 +68,7 @@ impl Count {
 
 impl Batch {
     // Whether all of it came out as the list has it.
-    pub fn is_whole(&self) -> bool {
+    pub fn is_whole(self) -> bool {
         self.agreed
             && self.slots.is_whole()
             && self.entries.is_whole()
@@ -101,7 +101,7 @@ impl Totals {
     }
 
     // With a batch, and its block.
-    pub fn with_batch(mut self, batch: &Batch) -> Totals {
+    pub fn with_batch(mut self, batch: Batch) -> Totals {
         self.blocks = one_more(self.blocks, true);
         self.full = one_more(self.full, batch.full);
         self.batches = self.batches.with(batch.is_whole());

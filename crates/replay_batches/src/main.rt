@@ -22,14 +22,14 @@ const ROOM: usize = 181784;
 const LONGEST_BLOCK: usize = 32768;
 
 // What came of a batch, and the cursor after it.
-#[derive(Drop)]
+#[derive(Clone, Copy)]
 struct Replayed {
     batch: Batch,
     cursor: Cursor,
 }
 
 // A history so far: whether all of it agreed, the totals, and its cursor.
-#[derive(Drop)]
+#[derive(Clone, Copy)]
 struct History {
     agreed: bool,
     totals: Totals,
@@ -37,7 +37,7 @@ struct History {
 }
 
 // Whether a batch answered as the list has it, with which number, and where the block goes on.
-#[derive(Drop)]
+#[derive(Clone, Copy)]
 struct Answered {
     agreed: bool,
     number: u32,
@@ -128,7 +128,7 @@ fn next_batch<W: Write, R: Read>(
     let whole = batch.is_whole();
     Ok(History {
         agreed: before.agreed && whole,
-        totals: name(out, before.totals.with_batch(&batch), place, whole)?,
+        totals: name(out, before.totals.with_batch(batch), place, whole)?,
         cursor: replayed.cursor,
     })
 }

@@ -13,7 +13,7 @@ const HEADER: usize = 24;
 const SLOT: usize = 2560;
 
 // What is compared so far: where the block goes on, where the store does, and the cases.
-#[derive(Drop)]
+#[derive(Clone, Copy)]
 struct Compared {
     at: usize,
     place: usize,

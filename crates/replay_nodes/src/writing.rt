@@ -14,7 +14,7 @@ use node::{Child, Node, Value};
 const MARK: u8 = 0xA5;
 
 // A node as the block gives it, and where the block goes on.
-#[derive(Drop)]
+#[derive(Clone, Copy)]
 struct Case {
     node: Node,
     at: usize,

@@ -20,7 +20,7 @@ struct Question {
 }
 
 // Whether the answer was the list's, with which number, and the cursor after it.
-#[derive(Drop)]
+#[derive(Clone, Copy)]
 struct Outcome {
     agreed: bool,
     number: u32,
