@@ -4,23 +4,13 @@ use mathlib.Core.List.{List}
 use mathlib.Core.Bool.{Bool, true, false, not}
 use mathlib.Core.Option.{Option, none, some}
 use Prim.Native.Nat.{ℕ, zero, suc, ◌+◌, ◌-◌, ◌≤◌, ◌<◌}
-use lib.Dec.{eqb}
 use native.Mathlib.Omega.{arith}
-use borrow.Author.Tests.{not-true, not-false, eqb-true, eqb-false, ne_eqb}
-use Rattle.word.specs.Pick.{pick_t, pick_f}
+use borrow.Author.Tests.{not-true, not-false, ne_eqb}
+use Rattle.std.specs.Prelude.{Some, None}
 use Rattle.word.specs.At.{read_at}
-use Rattle.tree.proofs.Cases.{by_bool}
 use Rattle.slots.specs.Layout.{start, first_of}
 use Rattle.audit.specs.Walk.{is_clear, is_idle, next_free, linked, chain}
 use Rattle.audit.specs.Code.{length_from, chain_of, chain_in}
-
-right_is : (i : ℕ) → chain_of (record { right = true; len = i }) ≡ some i
-unfolding chain_of
-right_is i = pick_t _ _ refl
-
-wrong_is : (i : ℕ) → chain_of (record { right = false; len = i }) ≡ none
-unfolding chain_of
-wrong_is i = pick_f _ _ refl
 
 linked_more : (i x : ℕ) (o : Option (List ℕ)) → length_from i (linked x o) ≡ length_from (i + 1) o
 linked_more i x none = refl
@@ -36,29 +26,29 @@ module _ (s ws : List ℕ) (n : ℕ) where
   chain_start e = let z : n - 0 ≡ n = omega arith in rw (e, z)
 
   module _ (i x : ℕ) (left : ChainLeft i x) where
-    pub chain_ends : x ≡ 0 → i ≤ n → chain_of (record { right = true; len = i }) ≡ chain_in s ws n
-    chain_ends z l = right_is i ∙ sym (left ∙ go (n - i))
+    pub chain_ends : x ≡ 0 → i ≤ n → chain_of (Some i) ≡ chain_in s ws n
+    chain_ends z l = sym (left ∙ go (n - i))
       where
         go : (k : ℕ) → length_from i (chain (is_clear ws) k s x) ≡ some i
         go zero = rw z (ap some (omega arith))
         go (suc k) = rw z (ap some (omega arith))
 
-    pub chain_late : (x ≡ 0 → ⊥) → i ≡ n → chain_of (record { right = false; len = i }) ≡ chain_in s ws n
-    chain_late z e = let k : n - i ≡ 0 = omega arith in wrong_is i ∙ sym (left ∙ rw (k, ne_eqb x 0 z))
+    pub chain_done : x ≡ 0 → i ≡ n → chain_of (Some n) ≡ chain_in s ws n
+    chain_done z e = ap some (sym e) ∙ chain_ends z (omega arith)
 
-    pub chain_last : n ≤ i → i ≤ n → chain_of (record { right = eqb x 0; len = i }) ≡ chain_in s ws n
-    chain_last a b = by_bool (eqb x 0) (λ e. rw e (chain_ends (eqb-true x 0 e) b)) (λ e. rw e (chain_late (eqb-false x 0 e) (omega arith)))
+    pub chain_late : (x ≡ 0 → ⊥) → i ≡ n → chain_of None ≡ chain_in s ws n
+    chain_late z e = let k : n - i ≡ 0 = omega arith in sym (left ∙ rw (k, ne_eqb x 0 z))
 
     module _ (z : x ≡ 0 → ⊥) (l : i < n) where
       one_more_lem : n - i ≡ suc (n - (i + 1))
       one_more_lem = omega arith
 
-      pub chain_used : {b : Bool} → b ≡ is_idle s x → not b ≡ true → chain_of (record { right = false; len = 0 }) ≡ chain_in s ws n
-      chain_used {b} e h = wrong_is 0 ∙ sym (left ∙ rw (one_more_lem, ne_eqb x 0 z, sym e ∙ not-true b h))
+      pub chain_used : {b : Bool} → b ≡ is_idle s x → not b ≡ true → chain_of None ≡ chain_in s ws n
+      chain_used {b} e h = sym (left ∙ rw (one_more_lem, ne_eqb x 0 z, sym e ∙ not-true b h))
 
       module _ {b : Bool} (e : b ≡ is_idle s x) (h : not b ≡ false) {c : Bool} (f : c ≡ is_clear ws x) where
-        pub chain_marked : not c ≡ true → chain_of (record { right = false; len = 0 }) ≡ chain_in s ws n
-        chain_marked g = wrong_is 0 ∙ sym (left ∙ rw (one_more_lem, ne_eqb x 0 z, sym e ∙ not-false b h, sym f ∙ not-true c g))
+        pub chain_marked : not c ≡ true → chain_of None ≡ chain_in s ws n
+        chain_marked g = sym (left ∙ rw (one_more_lem, ne_eqb x 0 z, sym e ∙ not-false b h, sym f ∙ not-true c g))
 
         pub chain_turn : {at y : ℕ} → not c ≡ false → at ≡ start x → y ≡ read_at 4 s (at + 4) → ChainLeft (i + 1) y
         chain_turn {at} {y} g p q =

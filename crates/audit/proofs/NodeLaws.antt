@@ -4,16 +4,16 @@ use mathlib.Core.List.{List, [], ◌++◌, append-nil, append_assoc}
 use mathlib.Core.Bool.{Bool, true, false, not, ◌&&◌}
 use mathlib.Core.Option.{Option, none, some}
 use Prim.Native.Nat.{Ordering}
-use Prim.Native.Nat.{ℕ, ◌+◌, ◌-◌, ◌≤◌, ◌<◌}
+use Prim.Native.Nat.{ℕ, ◌+◌, ◌-◌, ◌≤◌}
 use native.Mathlib.Omega.{arith}
 use lib.ListN.{length, take, drop, length-append}
-use borrow.Author.Tests.{le-leb, lt-leb, not-true, not-false}
-use Rattle.word.specs.Pick.{pick, pick_t, pick_f}
+use borrow.Author.Tests.{not-true, not-false}
 use Rattle.word.specs.Part.{part}
 use Rattle.word.specs.Key.{Key, cmp, is_lt, order_of}
 use Rattle.word.specs.Num.{Bytes, le, un, zeros}
-use Rattle.word.specs.At.{fits_in, read_at, zero_at}
-use Rattle.word.specs.declared.Order.{Order}
+use Rattle.word.specs.At.{fits_in, zero_at}
+use Rattle.std.specs.Ordering.{is_gt}
+use Rattle.std.specs.declared.cmp.Ordering.{Ordering as Order}
 use Rattle.word.proofs.PartLaws.{length_part, part_seam, part_add}
 use Rattle.word.proofs.NumLaws.{length_le, le_un, length_zeros, bytes_part}
 use Rattle.word.proofs.AtLaws.{read_at_in, zero_at_is, zero_at_true}
@@ -21,109 +21,46 @@ use Rattle.word.proofs.KeyOrder.{cmp_eq, cmp_refl, gt_lt, lt_gt}
 use Rattle.tree.proofs.Cases.{by_bool, by_order}
 use Rattle.slots.specs.Limits.{slot_size}
 use Rattle.slots.specs.Layout.{start, slot_at, idle}
-use Rattle.slots.specs.Mirror.{is_slot, length_at}
-use Rattle.slots.specs.Code.{node_room}
+use Rattle.slots.specs.Mirror.{is_slot}
 use Rattle.slots.specs.Entries.{same_bytes}
 use Rattle.slots.proofs.PlaceLaws.{slot_is, slot_part}
 use Rattle.slots.proofs.StoreLaws.{slot_of_lem}
 use Rattle.slots.proofs.CodeLaws.{whole}
 use Rattle.slots.proofs.Building.{same_bytes_true, same_bytes_refl}
-use Rattle.audit.specs.declared.Last.{Last}
-use Rattle.audit.specs.Walk.{is_clear, marked, is_above, next_free, is_idle}
-use Rattle.audit.specs.Code.{has_zeros, enters, is_rising, is_greater, key_of}
-
--- ---- the zeros behind a node
-
-module _ (s : List ℕ) (x : ℕ) {at len : ℕ} (begins : at ≡ start x) (says : len ≡ read_at 4 s at) where
-  length_is : len ≡ length_at s x
-  unfolding length_at
-  length_is = says ∙ ap (read_at 4 s) begins
-
-  pub zeros_1 : node_room < len → false ≡ has_zeros s x
-  unfolding has_zeros
-  zeros_1 h = rw (lt-leb (length_at s x) node_room (rw length_is at h))
-
-  pub zeros_2 : {z : Bool} → len ≤ node_room → z ≡ zero_at s (at + 4 + len) (node_room - len) → z ≡ has_zeros s x
-  unfolding has_zeros
-  zeros_2 h e =
-      let l = length_is in
-      e ∙ ap (λ (a : ℕ). zero_at s (a + 4 + len) (node_room - len)) begins ∙ ap (λ (k : ℕ). zero_at s (start x + 4 + k) (node_room - k)) l
-      ∙ rw (le-leb (length_at s x) node_room (rw l at h))
-
--- ---- walking into a node
-
-module _ (s : List ℕ) (x : ℕ) (standard : Bool) (count least : ℕ) (ws : List ℕ) where
-  abbrev Entered : Bool → List ℕ → Type 0
-  Entered r vs = (r ≡ enters s x standard count least ws) × (vs ≡ pick (enters s x standard count least ws) (marked ws x) ws)
-
-  stays : enters s x standard count least ws ≡ false → Entered false ws
-  stays e = (sym e, sym (pick_f _ _ e))
-
-  not_standard : standard ≡ false → enters s x standard count least ws ≡ false
-  unfolding enters
-  not_standard e = rw e
-
-  too_few : standard ≡ true → count < least → enters s x standard count least ws ≡ false
-  unfolding enters
-  too_few e l = rw (e, lt-leb least count l)
-
-  then_zeros : standard ≡ true → least ≤ count → enters s x standard count least ws ≡ (has_zeros s x && is_clear ws x)
-  unfolding enters
-  then_zeros e l = rw (e, le-leb least count l)
-
-  pub enter_1 : not standard ≡ true → Entered false ws
-  enter_1 h = stays (not_standard (not-true standard h))
-
-  module _ (h : not standard ≡ false) where
-    pub enter_2 : count < least → Entered false ws
-    enter_2 l = stays (too_few (not-false standard h) l)
-
-    module _ (l : least ≤ count) {z : Bool} (e : z ≡ has_zeros s x) where
-      pub enter_3 : not z ≡ true → Entered false ws
-      enter_3 n = stays (then_zeros (not-false standard h) l ∙ rw (sym e ∙ not-true z n))
-
-      pub enter_4 : {r : Bool} {vs : List ℕ} → not z ≡ false → (r ≡ is_clear ws x) × (vs ≡ pick (is_clear ws x) (marked ws x) ws) → Entered r vs
-      enter_4 n p =
-          let q : enters s x standard count least ws ≡ is_clear ws x = then_zeros (not-false standard h) l ∙ rw (sym e ∙ not-false z n) in
-          (p.0 ∙ sym q, p.1 ∙ ap (λ (b : Bool). pick b (marked ws x) ws) (sym q))
+use Rattle.audit.specs.Walk.{is_above, next_free, is_idle}
+use Rattle.audit.specs.Code.{is_rising}
 
 -- ---- rising keys
 
-turned_lem : (j k : Key) → is_greater (order_of (cmp k j)) ≡ is_lt (cmp j k)
+turned_lem : (j k : Key) → is_gt (order_of (cmp k j)) ≡ is_lt (cmp j k)
 turned_lem j k =
     by_order (cmp j k)
     (λ e. rw (lt_gt j k e, e))
     (λ e. let same = cmp_eq j k e in rw (e, same, cmp_refl k))
     (λ e. let w : cmp k j ≡ Ordering.lt = gt_lt j k e in rw (w, e))
 
-module _ (s : List ℕ) (last : Last) (at len : ℕ) {f : Bool} (fits : f ≡ fits_in (length s) at len) where
-  pub rises_1 : not f ≡ true → false ≡ is_rising s (key_of s last) at len
+module _ (s : List ℕ) (last : Option Key) (at len : ℕ) {f : Bool} (fits : f ≡ fits_in (length s) at len) where
+  pub rises_1 : not f ≡ true → false ≡ is_rising s last at len
   unfolding is_rising
   rises_1 h = rw (sym fits ∙ not-true f h)
 
   module _ (h : not f ≡ false) where
-    in_store_lem : is_rising s (key_of s last) at len ≡ is_above (key_of s last) (part s at len)
+    in_store_lem : is_rising s last at len ≡ is_above last (part s at len)
     unfolding is_rising
     in_store_lem = rw (sym fits ∙ not-false f h)
 
-    pub rises_2 : not last.keyed ≡ true → true ≡ is_rising s (key_of s last) at len
-    rises_2 k = sym (in_store_lem ∙ ap (λ (o : Option Key). is_above o (part s at len)) (key_none k))
-      where
-        key_none : not last.keyed ≡ true → key_of s last ≡ none
-        key_none k = unfold key_of in pick_f _ _ (not-true last.keyed k)
+    pub rises_2 : last ≡ none → true ≡ is_rising s last at len
+    rises_2 k = sym (in_store_lem ∙ ap (λ (o : Option Key). is_above o (part s at len)) k)
 
-    pub rises_3 : {o : Order} {r : Bool} → not last.keyed ≡ false → o ≡ order_of (cmp (take ((at + len) - at) (drop at s)) (part s last.start last.len)) → r ≡ is_greater o
-        → r ≡ is_rising s (key_of s last) at len
-    rises_3 {o} k p q =
-        let n : (at + len) - at ≡ len = omega arith in
-        q ∙ ap is_greater (p ∙ ap (λ (i : ℕ). order_of (cmp (take i (drop at s)) (part s last.start last.len))) n)
-        ∙ cut_lem ∙ turned_lem (part s last.start last.len) (part s at len) ∙ sym (in_store_lem ∙ ap (λ (o : Option Key). is_above o (part s at len)) (key_some k))
+    pub rises_3 : (a n : ℕ) {o : Order} {r : Bool} → last ≡ some (part s a n) → o ≡ order_of (cmp (take ((at + len) - at) (drop at s)) (part s a n)) → r ≡ is_gt o
+        → r ≡ is_rising s last at len
+    rises_3 a n {o} k p q =
+        let m : (at + len) - at ≡ len = omega arith in
+        q ∙ ap is_gt (p ∙ ap (λ (i : ℕ). order_of (cmp (take i (drop at s)) (part s a n))) m)
+        ∙ cut_lem ∙ turned_lem (part s a n) (part s at len) ∙ sym (in_store_lem ∙ ap (λ (o : Option Key). is_above o (part s at len)) k)
       where
-        cut_lem : is_greater (order_of (cmp (take len (drop at s)) (part s last.start last.len))) ≡ is_greater (order_of (cmp (part s at len) (part s last.start last.len)))
+        cut_lem : is_gt (order_of (cmp (take len (drop at s)) (part s a n))) ≡ is_gt (order_of (cmp (part s at len) (part s a n)))
         cut_lem = unfold part in refl
-
-        key_some : not last.keyed ≡ false → key_of s last ≡ some (part s last.start last.len)
-        key_some k = unfold key_of in pick_t _ _ (not-false last.keyed k)
 
 -- ---- a free slot's bytes
 
@@ -180,9 +117,6 @@ module _ (s : List ℕ) (x : ℕ) (is : is_slot s x ≡ true) where
       (λ a. rw (e, a)))
 
 module _ (s : List ℕ) (x : ℕ) {f : Bool} (is : f ≡ is_slot s x) where
-  pub idle_1 : not f ≡ true → false ≡ is_idle s x
-  idle_1 h = rw (sym is ∙ not-true f h)
-
   module _ (bs : Bytes s) (h : not f ≡ false) {at : ℕ} (begins : at ≡ start x) {z : Bool} (front : z ≡ zero_at s at 4) where
     a_slot : is_slot s x ≡ true
     a_slot = sym is ∙ not-false f h
@@ -190,8 +124,8 @@ module _ (s : List ℕ) (x : ℕ) {f : Bool} (is : f ≡ is_slot s x) where
     front_is : zero_at s (start x) 4 ≡ z
     front_is = ap (λ (a : ℕ). zero_at s a 4) (sym begins) ∙ sym front
 
-    pub idle_2 : not z ≡ true → false ≡ is_idle s x
-    idle_2 n = rw (a_slot, same_idle s x a_slot bs, front_is ∙ not-true z n)
+    pub idle_no : z ≡ false → false ≡ is_idle s x
+    idle_no n = rw (a_slot, same_idle s x a_slot bs, front_is ∙ n)
 
-    pub idle_3 : {y : Bool} → not z ≡ false → y ≡ zero_at s (at + 8) 2552 → y ≡ is_idle s x
-    idle_3 n e = e ∙ ap (λ (a : ℕ). zero_at s (a + 8) 2552) begins ∙ rw (a_slot, same_idle s x a_slot bs, front_is ∙ not-false z n)
+    pub idle_yes : {y : Bool} → z ≡ true → y ≡ zero_at s (at + 8) 2552 → y ≡ is_idle s x
+    idle_yes n e = e ∙ ap (λ (a : ℕ). zero_at s (a + 8) 2552) begins ∙ rw (a_slot, same_idle s x a_slot bs, front_is ∙ n)

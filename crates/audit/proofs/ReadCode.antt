@@ -3,6 +3,8 @@ use mathlib.Core.Path.{◌≡◌, refl, sym, ap, ◌∙◌}
 use mathlib.Core.List.{List, [], ◌∷◌, ◌++◌, map, append_assoc, append-nil}
 use mathlib.Core.Bool.{Bool, true, false, cond, ◌&&◌}
 use mathlib.Core.Option.{none, some}
+use Rattle.std.specs.Prelude as std
+use Rattle.std.specs.Prelude.{None}
 use Prim.Native.Nat.{ℕ, ◌+◌, ◌-◌, ◌≤◌}
 use lib.ListN.{length, get_or, length-append, length-map}
 use lib.Dec.{leb}
@@ -16,6 +18,7 @@ use Rattle.word.proofs.PartLaws.{length_part, part_add, part_part, part_seam}
 use Rattle.word.proofs.NumLaws.{length_zeros, le_un, bytes_part}
 use Rattle.word.proofs.AtLaws.{read_at_in, zero_at_is, zero_at_true}
 use Rattle.tree.proofs.Cases.{by_bool}
+use Rattle.node.specs.declared.Slot.{Slot}
 use Rattle.codec.specs.declared.Ending.{Ending}
 use Rattle.codec.specs.Codec.{Spot, Scan, encode, scan, step_of, is_accepted, is_no_byte_left}
 use Rattle.node.specs.Chain.{padded, value_of, child_of}
@@ -27,10 +30,10 @@ use Rattle.slots.specs.Limits.{least_node, most_node, slot_size}
 use Rattle.slots.specs.Layout.{start, slot_at, used}
 use Rattle.slots.specs.Mirror.{is_slot, length_at, node_bytes, holds_node}
 use Rattle.slots.specs.Entries.{same_bytes, as_written}
-use Rattle.slots.specs.Code.{node_room, slot_of, bytes_in, places_in, reading_in, first_in, rest_in, node_in}
+use Rattle.slots.specs.Code.{node_room, slot_of, some_slot, bytes_in, places_in, reading_in, first_in, rest_in, node_in}
 use Rattle.slots.proofs.HeaderLaws.{and_both}
 use Rattle.slots.proofs.PlaceLaws.{slot_is, slot_part}
-use Rattle.slots.proofs.CodeLaws.{whole, bytes_small, read_accepted, read_refused, accepted_holds, accepted_standard, accepted_bytes, accepted_slot}
+use Rattle.slots.proofs.CodeLaws.{whole, bytes_small, read_accepted, read_refused, accepted_holds, accepted_standard, accepted_bytes, accepted_slot, accepted_some}
 use Rattle.slots.proofs.Building.{same_bytes_true, same_bytes_refl}
 use Rattle.audit.specs.Walk.{read_written}
 use Rattle.audit.specs.Code.{has_zeros, steps_at}
@@ -199,6 +202,9 @@ module _ (s : List ℕ) (bs : Bytes s) (x : ℕ) where
 
     pub standard_slot : slot_of s x ≡ x
     standard_slot = (accepted_slot s x ending_ok).1
+
+    pub standard_some : {o : std.Option Slot} → o ≡ some_slot (slot_of s x) → o ≡ None → ⊥
+    standard_some = accepted_some s x ending_ok
 
     stands : Held
     stands = held ending_ok

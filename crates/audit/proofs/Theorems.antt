@@ -21,10 +21,10 @@ use Rattle.slots.proofs.Building.{IfSome}
 use Rattle.slots.proofs.AuditedLaws.{audited_store}
 use Rattle.slots.specs.Reached.{reached}
 use Rattle.slots.proofs.Reached.{audited_once}
-use Rattle.audit.specs.declared.Verdict.{Verdict}
-use Rattle.audit.specs.declared.Verdict.TheVariants.{Passed, NotStore, FewMarks, Fails}
+use Rattle.std.specs.Prelude.{Ok, Err}
+use Rattle.audit.specs.declared.AuditError.TheVariants.{NotStore, FewMarks, Fails}
 use Rattle.audit.specs.Marks.{words_for, mark_of, among, mark_words, all_ones}
-use Rattle.audit.specs.Contract.{audit_number, audit_reached, Leaves, Audits}
+use Rattle.audit.specs.Contract.{Verdict, audit_number, audit_reached, Leaves, Audits}
 use Rattle.audit.specs.Walk.{in_list, in_words, read_written, walk}
 use Rattle.audit.specs.Code.{Answer, walked, answer}
 use Rattle.audit.proofs.MarkLaws.{words_enough, mark_tells, marks_same, marks_count, count_first}
@@ -88,18 +88,18 @@ module _ (s ms : List ℕ) where
   unfolding answer
   answer_walked is le = pick_t _ _ is ∙ pick_t _ _ (le-leb (words_for (count_of s)) (length ms) le)
 
-  answer_few : is_store s ≡ true → length ms < words_for (count_of s) → answer s ms ≡ record { audit = FewMarks; marks = ms }
+  answer_few : is_store s ≡ true → length ms < words_for (count_of s) → answer s ms ≡ record { audit = Err FewMarks; marks = ms }
   unfolding answer
   answer_few is lt = pick_t _ _ is ∙ pick_f _ _ (lt-leb (words_for (count_of s)) (length ms) lt)
 
-  answer_not : is_store s ≡ false → answer s ms ≡ record { audit = NotStore; marks = ms }
+  answer_not : is_store s ≡ false → answer s ms ≡ record { audit = Err NotStore; marks = ms }
   unfolding answer
   answer_not ne = pick_f _ _ ne
 
   no_way : true ≡ false → ⊥
   no_way e = let k : ◌≡◌ {A = ℕ} 0 1 = cc in omega arith
 
-  not_right : is_store s ≡ false → Right (record { audit = NotStore; marks = ms })
+  not_right : is_store s ≡ false → Right (record { audit = Err NotStore; marks = ms })
   not_right ne = record {
     not_store = λ e. record { number_is = refl; marks = refl };
     few_marks = λ e l. absurd (no_way (sym e ∙ ne));
@@ -108,7 +108,7 @@ module _ (s ms : List ℕ) where
     reported = sym (pick_f _ _ refl);
   }
 
-  few_right : is_store s ≡ true → length ms < words_for (count_of s) → Right (record { audit = FewMarks; marks = ms })
+  few_right : is_store s ≡ true → length ms < words_for (count_of s) → Right (record { audit = Err FewMarks; marks = ms })
   few_right is lt = record {
     not_store = λ e. absurd (no_way (sym is ∙ e));
     few_marks = λ e l. record { number_is = refl; marks = refl };
@@ -117,7 +117,7 @@ module _ (s ms : List ℕ) where
     reported = sym (pick_f _ _ refl);
   }
 
-  fails_right : is_store s ≡ true → words_for (count_of s) ≤ length ms → (Audited s → ⊥) → Right (record { audit = Fails; marks = zeros (length ms) })
+  fails_right : is_store s ≡ true → words_for (count_of s) ≤ length ms → (Audited s → ⊥) → Right (record { audit = Err Fails; marks = zeros (length ms) })
   fails_right is le ne = record {
     not_store = λ e. absurd (no_way (sym is ∙ e));
     few_marks = λ e l. absurd (omega arith);
@@ -126,7 +126,7 @@ module _ (s ms : List ℕ) where
     reported = sym (pick_f _ _ refl);
   }
 
-  passes_right : Audited s → words_for (count_of s) ≤ length ms → Right (record { audit = Passed (all_ones (take (words_for (count_of s)) (mark_words (reached s) (length ms)))); marks = mark_words (reached s) (length ms) })
+  passes_right : Audited s → words_for (count_of s) ≤ length ms → Right (record { audit = Ok (all_ones (take (words_for (count_of s)) (mark_words (reached s) (length ms)))); marks = mark_words (reached s) (length ms) })
   passes_right h le = record {
     not_store = λ e. absurd (no_way (sym (audited_store s h) ∙ e));
     few_marks = λ e l. absurd (omega arith);
@@ -153,22 +153,22 @@ module _ (s ms : List ℕ) where
 
 -- the number and the reached count tell the answer
 same_audit : (r q : Verdict) → audit_number r ≡ audit_number q → audit_reached r ≡ audit_reached q → r ≡ q
-same_audit (Passed n) (Passed m) e f = ap Passed f
-same_audit (Passed n) NotStore e f = absurd (omega arith)
-same_audit (Passed n) FewMarks e f = absurd (omega arith)
-same_audit (Passed n) Fails e f = absurd (omega arith)
-same_audit NotStore (Passed m) e f = absurd (omega arith)
-same_audit NotStore NotStore e f = refl
-same_audit NotStore FewMarks e f = absurd (omega arith)
-same_audit NotStore Fails e f = absurd (omega arith)
-same_audit FewMarks (Passed m) e f = absurd (omega arith)
-same_audit FewMarks NotStore e f = absurd (omega arith)
-same_audit FewMarks FewMarks e f = refl
-same_audit FewMarks Fails e f = absurd (omega arith)
-same_audit Fails (Passed m) e f = absurd (omega arith)
-same_audit Fails NotStore e f = absurd (omega arith)
-same_audit Fails FewMarks e f = absurd (omega arith)
-same_audit Fails Fails e f = refl
+same_audit (Ok n) (Ok m) e f = ap Ok f
+same_audit (Ok n) (Err NotStore) e f = absurd (omega arith)
+same_audit (Ok n) (Err FewMarks) e f = absurd (omega arith)
+same_audit (Ok n) (Err Fails) e f = absurd (omega arith)
+same_audit (Err NotStore) (Ok m) e f = absurd (omega arith)
+same_audit (Err NotStore) (Err NotStore) e f = refl
+same_audit (Err NotStore) (Err FewMarks) e f = absurd (omega arith)
+same_audit (Err NotStore) (Err Fails) e f = absurd (omega arith)
+same_audit (Err FewMarks) (Ok m) e f = absurd (omega arith)
+same_audit (Err FewMarks) (Err NotStore) e f = absurd (omega arith)
+same_audit (Err FewMarks) (Err FewMarks) e f = refl
+same_audit (Err FewMarks) (Err Fails) e f = absurd (omega arith)
+same_audit (Err Fails) (Ok m) e f = absurd (omega arith)
+same_audit (Err Fails) (Err NotStore) e f = absurd (omega arith)
+same_audit (Err Fails) (Err FewMarks) e f = absurd (omega arith)
+same_audit (Err Fails) (Err Fails) e f = refl
 
 module _ (s ms : List ℕ) (bs : Bytes s) (r q : Verdict) (ns os : List ℕ) (a : Audits s ms r ns) (b : Audits s ms q os) where
   leave_same : (number : ℕ) (left : List ℕ) → Leaves r ns number left → Leaves q os number left → (r ≡ q) × (ns ≡ os)

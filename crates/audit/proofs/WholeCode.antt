@@ -9,33 +9,26 @@ use native.Mathlib.Omega.{arith}
 use lib.ListN.{length, get_or, take}
 use lib.Dec.{eqb}
 use lib.Count.{ones-le}
-use borrow.Author.Tests.{le-leb, lt-leb, eq-eqb, ne_eqb, not-true, not-false}
+use borrow.Author.Tests.{le-leb, lt-leb, ne_eqb, not-true, not-false}
 use Rattle.word.specs.Pick.{pick_t, pick_f}
 use Rattle.word.specs.Num.{Bytes, zeros}
 use Rattle.tree.specs.State.{root_least}
-use Rattle.tree.proofs.Cases.{by_bool, by_cond}
+use Rattle.tree.proofs.Cases.{by_cond}
 use Rattle.slots.specs.Limits.{most_depth}
 use Rattle.slots.specs.Layout.{root_of, depth_of, count_of, first_of, is_store}
 use Rattle.slots.proofs.Building.{IfSome}
-use Rattle.audit.specs.declared.Verdict.{Verdict}
-use Rattle.audit.specs.declared.Verdict.TheVariants.{Passed, NotStore, FewMarks, Fails}
-use Rattle.audit.specs.declared.Seen as struct
-use Rattle.audit.specs.declared.Chain.{Chain}
+use Rattle.std.specs.Prelude as rust
+use Rattle.std.specs.Prelude.{is_ok, Ok, Err, Some, None}
+use Rattle.audit.specs.declared.AuditError.TheVariants.{NotStore, FewMarks, Fails}
+use Rattle.audit.specs.declared.Place.{Place}
+use Rattle.audit.specs.declared.Broken.{Broken}
 use Rattle.audit.specs.Marks.{words_for, all_ones}
-use Rattle.audit.specs.Contract.{Audits}
-use Rattle.audit.specs.Walk.{in_words, is_clear, bind, read_written, visit, linked, next_free, is_idle, chain, fills, walk_tree, walk_free, walk}
-use Rattle.audit.specs.Code.{key_of, seen_of, visit_in, length_from, chain_of, chain_in, left_of, walk_tree_in, fills_in, Answer, walked, answer}
-use Rattle.audit.proofs.VisitCode.{seen_right, seen_wrong, key_none}
+use Rattle.audit.specs.Contract.{Verdict, Audits}
+use Rattle.audit.specs.Walk.{in_words, is_clear, bind, read_written, visit, marks_of, linked, next_free, is_idle, chain, walk_tree, walk_free, walk}
+use Rattle.audit.specs.Code.{seen_of, visit_in, length_from, chain_of, chain_in, left_of, walk_tree_in, fills_in, Answer, walked, answer}
 use Rattle.audit.proofs.Theorems.{answer_right}
 
 -- ---- the tree
-
-pub least_leaf : (d : ℕ) → d ≡ 0 → 0 ≡ root_least d
-least_leaf d e = rw e
-
-pub least_above : (d : ℕ) → (d ≡ 0 → ⊥) → 1 ≡ root_least d
-least_above zero ne = absurd (ne refl)
-least_above (suc d) ne = refl
 
 left_cond : (b : Bool) (ws : List ℕ) → left_of b ws ≡ cond b (some ws) none
 unfolding left_of
@@ -49,29 +42,22 @@ pub left_false : {b : Bool} (ws : List ℕ) → b ≡ false → left_of b ws ≡
 left_false ws e = left_cond _ ws ∙ rw e
 
 module _ (s ws : List ℕ) {root depth : ℕ} (r : root ≡ root_of s) (d : depth ≡ depth_of s) where
-  pub tree_1 : root ≡ 0 → left_of (eqb depth 0) ws ≡ walk_tree_in s ws
-  unfolding walk_tree_in
-  tree_1 z = left_cond (eqb depth 0) ws ∙ rw (d, eq-eqb (root_of s) 0 (sym r ∙ z))
-
   module _ (z : root ≡ 0 → ⊥) where
     rooted : eqb (root_of s) 0 ≡ false
     rooted = ne_eqb (root_of s) 0 (λ e. z (r ∙ e))
 
-    pub tree_2 : most_depth < depth → left_of false ws ≡ walk_tree_in s ws
-    unfolding walk_tree_in
-    tree_2 l = left_cond false ws ∙ rw (rooted, lt-leb (depth_of s) most_depth (rw d at l))
-
-    pub tree_3 : {least : ℕ} (seen : struct.Seen) (vs : List ℕ) → depth ≤ most_depth → least ≡ root_least depth
-        → seen_of s seen vs ≡ visit_in s (depth + 1) least root (record { marks = ws; last = key_of s (record { keyed = false; start = 0; len = 0 }) })
-        → left_of seen.right vs ≡ walk_tree_in s ws
+    pub tree_1 : {least : ℕ} (seen : rust.Result (rust.Option Place) Broken) (vs : List ℕ) {b : Bool} → depth ≤ most_depth → least ≡ root_least depth
+        → seen_of s seen vs ≡ visit_in s (depth + 1) least root (record { marks = ws; last = none }) → b ≡ is_ok seen → left_of b vs ≡ walk_tree_in s ws
     unfolding walk_tree_in visit_in
-    tree_3 {least} seen vs l e q =
+    tree_1 {least} seen vs {b} l e q ok =
         let one : depth_of s + 1 ≡ suc (depth_of s) = omega arith in
         let v : seen_of s seen vs ≡ visit (in_words (words_for (count_of s))) (read_written s) (suc (depth_of s)) (root_least (depth_of s)) (root_of s) (record { marks = ws; last = none }) =
-        q ∙ rw (e, d, r, one, key_none s 0 0) in
-        sym (rw (rooted, le-leb (depth_of s) most_depth (rw d at l), ← v) (by_bool seen.right
-        (λ t. rw (seen_right s seen vs t) (sym (left_true vs t)))
-        (λ t. rw (seen_wrong s seen vs t) (sym (left_false vs t)))))
+        q ∙ rw (e, d, r, one) in
+        sym (rw (rooted, le-leb (depth_of s) most_depth (rw d at l), ← v) (go seen ok))
+      where
+        go : (q : rust.Result (rust.Option Place) Broken) → b ≡ is_ok q → marks_of (in_words (words_for (count_of s))) (read_written s) s (seen_of s q vs) ≡ left_of b vs
+        go (Ok l) e = sym (left_true vs e)
+        go (Err f) e = sym (left_false vs e)
 
 -- ---- the chain
 
@@ -86,43 +72,13 @@ module _ (s ws : List ℕ) (n : ℕ) where
       go none h = tt
       go (some fs) h = omega arith
 
-  chain_right : (c : Chain) → c.right ≡ true → chain_of c ≡ some c.len
-  unfolding chain_of
-  chain_right c e = pick_t _ _ e
-
-  chain_wrong : (c : Chain) → c.right ≡ false → chain_of c ≡ none
-  unfolding chain_of
-  chain_wrong c e = pick_f _ _ e
-
-  module _ (c : Chain) (is : chain_of c ≡ chain_in s ws n) where
-    pub fills_1 : not c.right ≡ true → false ≡ fills_in s ws n
-    unfolding chain_in fills_in
-    fills_1 h = go (chain (is_clear ws) n s (first_of s)) (sym (chain_wrong c (not-true c.right h)) ∙ is)
-      where
-        go : (o : Option (List ℕ)) → none ≡ length_from 0 o → false ≡ fills n (all_ones (take (words_for n) ws)) o
-        go none e = refl
-        go (some fs) e = let k : ◌≡◌ {A = ℕ} 0 1 = cc in absurd (omega arith)
-
-    module _ (h : not c.right ≡ false) where
-      length_of_lem : (o : Option (List ℕ)) → some c.len ≡ length_from 0 o → IfSome (λ (fs : List ℕ). length fs ≡ c.len) o
-      length_of_lem none e = tt
-      length_of_lem (some fs) e = let k : c.len ≡ 0 + length fs = cc in omega arith
-
-      pub chain_short : c.len ≤ n
-      unfolding chain_in
-      chain_short = go (chain (is_clear ws) n s (first_of s)) (sym (chain_right c (not-false c.right h)) ∙ is) (chain_most (is_clear ws) n (first_of s))
-        where
-          go : (o : Option (List ℕ)) → some c.len ≡ length_from 0 o → IfSome (λ (fs : List ℕ). length fs ≤ n) o → c.len ≤ n
-          go none e m = let k : ◌≡◌ {A = ℕ} 0 1 = cc in absurd (omega arith)
-          go (some fs) e m = omega (arith, length_of_lem (some fs) e, m)
-
-      pub fills_2 : {words reached : ℕ} → words ≡ words_for n → reached ≡ all_ones (take words ws) → eqb (reached + c.len) n ≡ fills_in s ws n
-      unfolding chain_in fills_in
-      fills_2 {words} {reached} w q = go (chain (is_clear ws) n s (first_of s)) (sym (chain_right c (not-false c.right h)) ∙ is)
-        where
-          go : (o : Option (List ℕ)) → some c.len ≡ length_from 0 o → eqb (reached + c.len) n ≡ fills n (all_ones (take (words_for n) ws)) o
-          go none e = let k : ◌≡◌ {A = ℕ} 0 1 = cc in absurd (omega arith)
-          go (some fs) e = let k = length_of_lem (some fs) e in rw (q, w, ← k)
+  pub chain_short : {c : rust.Option ℕ} {len : ℕ} → chain_of c ≡ chain_in s ws n → c ≡ Some len → len ≤ n
+  unfolding chain_in
+  chain_short {len = len} is h = go (chain (is_clear ws) n s (first_of s)) (ap chain_of (sym h) ∙ is) (chain_most (is_clear ws) n (first_of s))
+    where
+      go : (o : Option (List ℕ)) → some len ≡ length_from 0 o → IfSome (λ (fs : List ℕ). length fs ≤ n) o → len ≤ n
+      go none e m = absurd (cc)
+      go (some fs) e m = let k : len ≡ 0 + length fs = cc in omega arith
 
 pub words_few : (n : ℕ) {words : ℕ} → words ≡ words_for n → 64 * words ≤ n + 63
 unfolding words_for
@@ -143,15 +99,15 @@ module _ (s ms : List ℕ) (bs : Bytes s) where
   by_answer r ns e = subst (λ (a : Answer). Audits s ms a.audit a.marks) e (answer_right s ms bs)
 
   module _ {b : Bool} (is : b ≡ is_store s) where
-    pub audit_1 : not b ≡ true → Audits s ms NotStore ms
-    audit_1 h = by_answer NotStore ms (unfold answer in pick_f _ _ (sym is ∙ not-true b h))
+    pub audit_1 : not b ≡ true → Audits s ms (Err NotStore) ms
+    audit_1 h = by_answer (Err NotStore) ms (unfold answer in pick_f _ _ (sym is ∙ not-true b h))
 
     module _ (h : not b ≡ false) {n words : ℕ} (count : n ≡ count_of s) (needs : words ≡ words_for n) where
       needed : words ≡ words_for (count_of s)
       needed = needs ∙ ap words_for count
 
-      pub audit_2 : length ms < words → Audits s ms FewMarks ms
-      audit_2 l = by_answer FewMarks ms (unfold answer in (pick_t _ _ (sym is ∙ not-false b h) ∙ pick_f _ _ (lt-leb (words_for (count_of s)) (length ms) (rw needed at l))))
+      pub audit_2 : length ms < words → Audits s ms (Err FewMarks) ms
+      audit_2 l = by_answer (Err FewMarks) ms (unfold answer in (pick_t _ _ (sym is ∙ not-false b h) ∙ pick_f _ _ (lt-leb (words_for (count_of s)) (length ms) (rw needed at l))))
 
       module _ (l : words ≤ length ms) {cs : List ℕ} (cleared : cs ≡ zeros (length ms)) (t : Bool) (ws : List ℕ) (tree : left_of t ws ≡ walk_tree_in s cs) where
         abbrev o : Option (List ℕ)
@@ -165,21 +121,21 @@ module _ (s ms : List ℕ) (bs : Bytes s) where
         unfolding walk walk_tree_in fills_in
         walk_is = ap (λ (q : Option (List ℕ)). bind q (walk_free (in_words (words_for (count_of s))) (read_written s) s)) (sym (tree ∙ ap (walk_tree (in_words (words_for (count_of s))) (read_written s) s) cleared))
 
-        none_left : o ≡ none → Audits s ms Fails (zeros (length ms))
-        none_left e = by_answer Fails (zeros (length ms)) (answer_is ∙ rw e)
+        none_left : o ≡ none → Audits s ms (Err Fails) (zeros (length ms))
+        none_left e = by_answer (Err Fails) (zeros (length ms)) (answer_is ∙ rw e)
 
         module _ (ok : t ≡ true) {f : Bool} (filled : f ≡ fills_in s ws n) where
           walk_then : o ≡ cond f (some ws) none
           walk_then = walk_is ∙ rw (left_true ws ok, filled, count)
 
-          pub audit_3 : {k m : ℕ} → f ≡ true → m ≡ words → k ≡ all_ones (take m ws) → Audits s ms (Passed k) ws
-          audit_3 {k} e v q =
+          pub audit_3 : {k : ℕ} → f ≡ true → k ≡ all_ones (take (words_for n) ws) → Audits s ms (Ok k) ws
+          audit_3 {k} e q =
               let w : o ≡ some ws = walk_then ∙ rw e in
-              let z : all_ones (take (words_for (count_of s)) ws) ≡ k = sym (q ∙ rw (v, needed)) in
-              by_answer (Passed k) ws (answer_is ∙ ap (walked (words_for (count_of s)) (length ms)) w ∙ rw z)
+              let z : all_ones (take (words_for (count_of s)) ws) ≡ k = sym (q ∙ rw count) in
+              by_answer (Ok k) ws (answer_is ∙ ap (walked (words_for (count_of s)) (length ms)) w ∙ rw z)
 
-          pub audit_5 : {vs : List ℕ} → f ≡ false → length ws ≡ length ms → vs ≡ zeros (length ws) → Audits s ms Fails vs
+          pub audit_5 : {vs : List ℕ} → f ≡ false → length ws ≡ length ms → vs ≡ zeros (length ws) → Audits s ms (Err Fails) vs
           audit_5 e k v = rw (v, k) (none_left (walk_then ∙ rw e))
 
-        pub audit_4 : {vs : List ℕ} → t ≡ false → length ws ≡ length ms → vs ≡ zeros (length ws) → Audits s ms Fails vs
+        pub audit_4 : {vs : List ℕ} → t ≡ false → length ws ≡ length ms → vs ≡ zeros (length ws) → Audits s ms (Err Fails) vs
         audit_4 e k v = rw (v, k) (none_left (walk_is ∙ rw (left_false ws e)))

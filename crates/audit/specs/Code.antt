@@ -1,24 +1,22 @@
 -- What the audit's code answers and leaves, in the words of its walk. A proof device: the promise is in Contract. Assumes nothing.
-use Rattle.std.specs.Prelude.{List, [], ◌∷◌, Bool, true, false, ◌&&◌, ℕ, zero, suc, ◌+◌, ◌-◌, length, get_or, take, leb}
+use Rattle.std.specs.Prelude.{List, [], ◌∷◌, Bool, true, false, ◌&&◌, ℕ, zero, suc, ◌+◌, ◌-◌, length, get_or, take, leb, Ok, Err}
 use Rattle.std.proofs.Math.Option.{Option, none, some}
+use Rattle.std.specs.Prelude as rust
 use Rattle.word.specs.Pick.{pick}
 use Rattle.word.specs.Part.{part}
 use Rattle.word.specs.Key.{Key}
 use Rattle.word.specs.Num.{zeros}
 use Rattle.word.specs.At.{fits_in, zero_at}
-use Rattle.word.specs.declared.Order.{Order}
-use Rattle.word.specs.declared.Order.TheVariants.{Less, Equal, Greater}
 use Rattle.codec.specs.declared.Places.{Places}
 use Rattle.node.specs.Chain.{Step, value_of, child_of}
 use Rattle.slots.specs.Layout.{start, count_of, first_of, is_store}
 use Rattle.slots.specs.Mirror.{length_at}
 use Rattle.slots.specs.Code.{node_room}
-use Rattle.audit.specs.declared.Verdict.{Verdict}
-use Rattle.audit.specs.declared.Verdict.TheVariants.{Passed, NotStore, FewMarks, Fails}
-use Rattle.audit.specs.declared.Last.{Last}
-use Rattle.audit.specs.declared.Seen as struct
-use Rattle.audit.specs.declared.Chain.{Chain}
+use Rattle.audit.specs.declared.AuditError.TheVariants.{NotStore, FewMarks, Fails}
+use Rattle.audit.specs.declared.Place.{Place}
+use Rattle.audit.specs.declared.Broken.{Broken}
 use Rattle.audit.specs.Marks.{words_for, all_ones}
+use Rattle.audit.specs.Contract.{Verdict}
 use Rattle.audit.specs.Walk.{in_words, Seen, is_above, is_clear, read_written, visit_rest, visit, chain, fills, walk_tree, walk}
 
 -- ---- one node
@@ -35,18 +33,15 @@ enters s x standard count least ws = standard && (leb least count && (has_zeros 
 unfoldable pub is_rising : List ℕ → Option Key → ℕ → ℕ → Bool
 is_rising s last at len = fits_in (length s) at len && is_above last (part s at len)
 
-abbrev pub is_greater : Order → Bool
-is_greater Less = false
-is_greater Equal = false
-is_greater Greater = true
+-- ---- what a walk has seen, by the code's answer
 
--- ---- the code's structs for what a walk has seen
+abbrev pub key_of : List ℕ → rust.Option Place → Option Key
+key_of s rust.None = none
+key_of s (rust.Some p) = some (part s p.start p.len)
 
-unfoldable pub key_of : List ℕ → Last → Option Key
-key_of s l = pick l.keyed (some (part s l.start l.len)) none
-
-unfoldable pub seen_of : List ℕ → struct.Seen → List ℕ → Option (Seen (List ℕ))
-seen_of s r ws = pick r.right (some (record { marks = ws; last = key_of s r.last })) none
+abbrev pub seen_of : List ℕ → rust.Result (rust.Option Place) Broken → List ℕ → Option (Seen (List ℕ))
+seen_of s (Ok l) ws = some (record { marks = ws; last = key_of s l })
+seen_of s (Err e) ws = none
 
 -- the walk of the tree
 unfoldable pub visit_in : List ℕ → ℕ → ℕ → ℕ → Seen (List ℕ) → Option (Seen (List ℕ))
@@ -70,8 +65,9 @@ abbrev pub length_from : ℕ → Option (List ℕ) → Option ℕ
 length_from i none = none
 length_from i (some fs) = some (i + length fs)
 
-unfoldable pub chain_of : Chain → Option ℕ
-chain_of c = pick c.right (some c.len) none
+abbrev pub chain_of : rust.Option ℕ → Option ℕ
+chain_of rust.None = none
+chain_of (rust.Some n) = some n
 
 unfoldable pub chain_in : List ℕ → List ℕ → ℕ → Option ℕ
 chain_in s ws n = length_from 0 (chain (is_clear ws) n s (first_of s))
@@ -95,11 +91,11 @@ pub record Answer : Type 0 where
 
 -- of k lent words of which the store needs n, by the marks with which the walk passed
 abbrev pub walked : ℕ → ℕ → Option (List ℕ) → Answer
-walked n k none = record { audit = Fails; marks = zeros k }
-walked n k (some ws) = record { audit = Passed (all_ones (take n ws)); marks = ws }
+walked n k none = record { audit = Err Fails; marks = zeros k }
+walked n k (some ws) = record { audit = Ok (all_ones (take n ws)); marks = ws }
 
 unfoldable pub answer : List ℕ → List ℕ → Answer
 answer s ms =
     pick (is_store s)
-    (pick (leb (words_for (count_of s)) (length ms)) (walked (words_for (count_of s)) (length ms) (walk (in_words (words_for (count_of s))) (read_written s) s (zeros (length ms)))) (record { audit = FewMarks; marks = ms }))
-    (record { audit = NotStore; marks = ms })
+    (pick (leb (words_for (count_of s)) (length ms)) (walked (words_for (count_of s)) (length ms) (walk (in_words (words_for (count_of s))) (read_written s) s (zeros (length ms)))) (record { audit = Err FewMarks; marks = ms }))
+    (record { audit = Err NotStore; marks = ms })

@@ -1,28 +1,33 @@
 -- What the audit answers for all inputs, and what every lent word holds afterwards. Assumes nothing.
-use Rattle.std.specs.Prelude.{◌≡◌, List, true, false, ℕ, ◌≤◌, ◌<◌, length, eqb}
+use Rattle.std.specs.Prelude.{◌≡◌, List, true, false, ℕ, ◌≤◌, ◌<◌, length, eqb, Result}
+use Rattle.std.specs.Result.{result_unwrap_or}
+use Rattle.refusal.specs.Number.{answer_number}
 use Rattle.word.specs.Pick.{pick}
 use Rattle.word.specs.Num.{zeros}
 use Rattle.slots.specs.Layout.{count_of, is_store}
 use Rattle.slots.specs.Stands.{Audited}
 use Rattle.slots.specs.Reached.{reached}
-use Rattle.audit.specs.declared.Verdict.{Verdict}
-use Rattle.audit.specs.declared.Verdict.TheVariants.{Passed, NotStore, FewMarks, Fails}
+use Rattle.audit.specs.declared.AuditError.{AuditError}
+use Rattle.audit.specs.declared.AuditError.TheVariants.{NotStore, FewMarks, Fails}
 use Rattle.audit.specs.Marks.{words_for, mark_words, all_ones}
 
--- "0 | done", "1 | buffer isn't 24+2,560×count bytes, count outside 1..65,535, bytes 20..23 not 0", "2 | too few mark words",
--- "8 | audit fails"
+-- how many slots are reached, or the refusal
+abbrev pub Verdict : Type 0
+Verdict = Result ℕ AuditError
+
+-- "1 | buffer isn't 24+2,560×count bytes, count outside 1..65,535, bytes 20..23 not 0", "2 | too few mark words", "8 | audit fails"
+abbrev pub audit_error_number : AuditError → ℕ
+audit_error_number NotStore = 1
+audit_error_number FewMarks = 2
+audit_error_number Fails = 8
+
+-- "0 | done", and the refusals' numbers
 abbrev pub audit_number : Verdict → ℕ
-audit_number (Passed n) = 0
-audit_number NotStore = 1
-audit_number FewMarks = 2
-audit_number Fails = 8
+audit_number r = answer_number audit_error_number r
 
 -- "Any refusal reports 0."
 abbrev pub audit_reached : Verdict → ℕ
-audit_reached (Passed n) = n
-audit_reached NotStore = 0
-audit_reached FewMarks = 0
-audit_reached Fails = 0
+audit_reached r = result_unwrap_or r 0
 
 -- the answer's number, and what the lent words hold then
 pub record Leaves (r : Verdict) (ns : List ℕ) (number : ℕ) (left : List ℕ) : Type 0 where

@@ -5,8 +5,6 @@
 //     part     name
 #![tactic(auto)]
 
-mod laid;
-
 use std::fs::File;
 use std::io;
 use std::io::{Read, Write};
@@ -27,8 +25,8 @@ fn say_marks<W: Write>(out: &mut W, marks: &[u64]) -> io::Result<()> {
 
 fn audit_and_say<W: Write>(out: &mut W, store: &[u8], marks: &mut [u64]) -> io::Result<()> {
     let verdict = audit::audit(store, marks);
-    lists::say(out, b": ", verdict.number() as u64)?;
-    lists::say(out, b", reached ", verdict.reached() as u64)?;
+    lists::say(out, b": ", refusal::number(verdict) as u64)?;
+    lists::say(out, b", reached ", verdict.unwrap_or(0) as u64)?;
     out.write_all(b", marks")?;
     say_marks(out, marks)?;
     out.write_all(b"\n")
@@ -54,7 +52,7 @@ fn audit_front<W: Write>(out: &mut W, room: &[u8], len: usize, words: usize) -> 
 // The room is for 65 slots, the fewest that need two mark words.
 fn audit_block<W: Write>(out: &mut W, block: &[u8]) -> io::Result<()> {
     let mut room = [0u8; 166424];
-    let span = laid::lay_out(&mut room, block);
+    let span = lists::lay_out(&mut room, block);
     let words = lists::byte(block, span.end);
     let name = lists::part(block, span.end + 1);
     out.write_all(&block[name.start..name.end])?;

@@ -1,41 +1,38 @@
--- The ways through `run_batch` and `batch` (a law NAME-k is of the k-th return). Assumes nothing.
+-- The ways through `batch` (a law NAME-k is of the k-th return). Assumes nothing.
 use mathlib.Core.Path.{◌≡◌, refl, sym, ap, subst, ◌∙◌}
 use mathlib.Core.List.{List, [], ◌∷◌}
 use mathlib.Core.Bool.{Bool, true, false, not}
 use mathlib.Core.Option.{Option, none, some}
 use Prim.Native.Nat.{ℕ, ◌≤◌, ◌<◌}
+use Rattle.std.specs.Prelude.{Ok, Err, is_err}
 use lib.ListN.{length}
 use native.Mathlib.Omega.{arith}
 use borrow.Author.Tests.{not-true, not-false}
 use Rattle.word.specs.Num.{Bytes, zeros}
 use Rattle.word.specs.Key.{Key}
-use Rattle.tree.specs.Batch.{Rec, runs_of}
+use Rattle.tree.specs.Batch.{Rec}
 use Rattle.tree.specs.Run as tree
 use Rattle.slots.specs.Layout.{count_of, is_store}
 use Rattle.slots.specs.Stands.{Audited}
 use Rattle.slots.proofs.AuditedLaws.{audited_store}
-use Rattle.audit.specs.declared.Verdict.{Verdict}
+use Rattle.audit.specs.declared.AuditError.TheVariants as audit
 use Rattle.audit.specs.Marks.{words_for}
-use Rattle.audit.specs.Contract.{audit_number, Audits}
-use Rattle.changes.specs.declared.Checked as changes
-use Rattle.changes.specs.declared.Checked.TheVariants as checked
+use Rattle.audit.specs.Contract.{Verdict, audit_number, Audits}
+use Rattle.changes.specs.declared.RecordError.{RecordError}
+use Rattle.changes.specs.declared.RecordError.TheVariants as flaw
 use Rattle.changes.specs.Fit as records
 use Rattle.changes.specs.Fit.{AllFit}
-use Rattle.changes.specs.Records.{checked_number, check_of, records_of}
+use Rattle.changes.specs.Records.{Checked, record_error_number, checked_number, check_of, records_of}
 use Rattle.changes.proofs.FineLaws.{fine_records}
-use Rattle.btree.specs.declared.records.Acted.{Acted}
-use Rattle.btree.specs.declared.records.Acted.TheVariants as acted
-use Rattle.btree.specs.declared.records.Ended as code
 use Rattle.outcome.specs.RunMirror as M
 use Rattle.outcome.specs.RunMirror.{Ended, start_m, run_all_m}
-use Rattle.btree.specs.RunCode.{acted_of, Ends}
 use Rattle.btree.proofs.Runs.{FitOp, FitRecs, end_of, batch_m}
 use Rattle.btree.proofs.Corollaries.{batch_ends}
-use Rattle.batch.specs.declared.Answer.{Answer}
-use Rattle.batch.specs.declared.Answer.TheVariants.{Done, NotStore, FewMarks, Fails, NoRoom}
+use Rattle.batch.specs.declared.BatchError.{BatchError}
+use Rattle.batch.specs.declared.BatchError.TheVariants.{NotStore, FewMarks, Fails}
 use Rattle.batch.specs.declared.Batched.{Batched}
-use Rattle.batch.specs.Contract.{answer_number, told, Refuses, Runs, Batches}
-use Rattle.batch.specs.Code.{refused_with, of_checked, ended_with, batched_of}
+use Rattle.batch.specs.Contract.{batch_error_number, answer_number, told, Refuses, Runs, Batches}
+use Rattle.batch.specs.Code.{refused_with, of_record_error, ended_with, batched_of}
 
 -- ---- records that are found fine fit
 
@@ -47,73 +44,30 @@ pub recs_fit : (rs : List (Rec ℕ)) → AllFit rs → FitRecs rs
 recs_fit [] f = tt
 recs_fit (r ∷ rs) f = (op_fits r.key r.op f.0.bytes f.0.short f.0.value, recs_fit rs f.1)
 
--- ---- the runs
-
-abbrev number : Acted → ℕ
-number acted.Done = 0
-number acted.Bad = 1
-number acted.NoRoom = 2
-
-module _ (s q : List ℕ) {e : code.Ended} (t u : List ℕ) (start : t ≡ start_m s) (ends : check_of q ≡ checked.Fine → Ends (run_all_m (runs_of (records_of q)) t) e u) where
-  abbrev all : Ended
-  all = run_all_m (runs_of (records_of q)) (start_m s)
-
-  abbrev RunTo : Batched → Type 0
-  RunTo r = check_of q ≡ checked.Fine → (r ≡ batched_of all) × (u ≡ all.store)
-
-  ended : check_of q ≡ checked.Fine → Ends all e u
-  ended h = subst (λ (w : List ℕ). Ends (run_all_m (runs_of (records_of q)) w) e u) start (ends h)
-
-  by_answer : (r : Batched) (a : Acted) → e.acted ≡ a → ((o : M.Acted) (n : ℕ) → e.applied ≡ n → a ≡ acted_of o → r ≡ ended_with o n) → RunTo r
-  by_answer r a is step h = let w = ended h in (step all.out all.applied w.applied (sym is ∙ w.acted), w.store)
-
-  pub run_1 : e.acted ≡ acted.Done → RunTo (record { answer = Done; applied = e.applied })
-  run_1 is = by_answer _ acted.Done is step
-    where
-      step : (o : M.Acted) (n : ℕ) → e.applied ≡ n → acted.Done ≡ acted_of o → record { answer = Done; applied = e.applied } ≡ ended_with o n
-      step M.done n c h = λ i. record { answer = Done; applied = c i }
-      step M.bad n c h = absurd (omega (arith, ap number h))
-      step M.no_room n c h = absurd (omega (arith, ap number h))
-
-  pub run_2 : (r : Batched) → e.acted ≡ acted.Bad → r ≡ refused_with Fails → RunTo r
-  run_2 r is p = by_answer r acted.Bad is step
-    where
-      step : (o : M.Acted) (n : ℕ) → e.applied ≡ n → acted.Bad ≡ acted_of o → r ≡ ended_with o n
-      step M.done n c h = absurd (omega (arith, ap number h))
-      step M.bad n c h = p
-      step M.no_room n c h = absurd (omega (arith, ap number h))
-
-  pub run_3 : e.acted ≡ acted.NoRoom → RunTo (record { answer = NoRoom; applied = e.applied })
-  run_3 is = by_answer _ acted.NoRoom is step
-    where
-      step : (o : M.Acted) (n : ℕ) → e.applied ≡ n → acted.NoRoom ≡ acted_of o → record { answer = NoRoom; applied = e.applied } ≡ ended_with o n
-      step M.done n c h = absurd (omega (arith, ap number h))
-      step M.bad n c h = absurd (omega (arith, ap number h))
-      step M.no_room n c h = λ i. record { answer = NoRoom; applied = c i }
-
 -- ---- the batch
 
 never_lem : {A : Type 0} → true ≡ false → A
 never_lem e = absurd (let k : ◌≡◌ {A = ℕ} 0 1 = cc in omega arith)
 
-refuses : {s t ns : List ℕ} {r : Batched} (a : Answer) (left : List ℕ) → r ≡ refused_with a → t ≡ s → ns ≡ left → Refuses s r t ns (answer_number a) left
+refuses : {s t ns : List ℕ} {r : Batched} (a : BatchError) (left : List ℕ) → r ≡ refused_with a → t ≡ s → ns ≡ left → Refuses s r t ns (batch_error_number a) left
 refuses a left p q e = record { number_is = ap (λ (x : Batched). answer_number x.answer) p; applied = ap (λ (x : Batched). x.applied) p; store = q; marks = e }
 
-checked_number_lem : (c : changes.Checked) → (c ≡ checked.Fine → ⊥) → answer_number (of_checked c) ≡ checked_number c
-checked_number_lem checked.Fine n = absurd (n refl)
-checked_number_lem checked.Short n = refl
-checked_number_lem checked.LongKey n = refl
-checked_number_lem checked.BadValue n = refl
-checked_number_lem checked.Falls n = refl
-checked_number_lem checked.TooMany n = refl
+record_number : (e : RecordError) → batch_error_number (of_record_error e) ≡ record_error_number e
+record_number flaw.Short = refl
+record_number flaw.LongKey = refl
+record_number flaw.BadValue = refl
+record_number flaw.Falls = refl
+record_number flaw.TooMany = refl
 
-fine_is : (c : changes.Checked) → checked_number c ≡ 0 → c ≡ checked.Fine
-fine_is checked.Fine e = refl
-fine_is checked.Short e = absurd (omega arith)
-fine_is checked.LongKey e = absurd (omega arith)
-fine_is checked.BadValue e = absurd (omega arith)
-fine_is checked.Falls e = absurd (omega arith)
-fine_is checked.TooMany e = absurd (omega arith)
+pub passed_number : (v : Verdict) {e : Bool} → e ≡ is_err v → e ≡ false → audit_number v ≡ 0
+passed_number (Ok n) e z = refl
+passed_number (Err e) f z = never_lem (sym f ∙ z)
+
+pub refused_number : (v : Verdict) {e : Bool} → e ≡ is_err v → e ≡ true → audit_number v ≡ 0 → ⊥
+refused_number (Ok n) e z y = never_lem (sym z ∙ e)
+refused_number (Err audit.NotStore) e z y = omega arith
+refused_number (Err audit.FewMarks) e z y = omega arith
+refused_number (Err audit.Fails) e z y = omega arith
 
 module _ (s ms q : List ℕ) {b : Bool} (tested : b ≡ is_store s) where
   pub batch_1 : {r : Batched} → not b ≡ true → r ≡ refused_with NotStore → Batches s ms q r s ms
@@ -147,43 +101,43 @@ module _ (s ms q : List ℕ) {b : Bool} (tested : b ≡ is_store s) where
       runs = λ a m n. absurd (omega (arith, enough));
     }
 
-    module _ (l : words ≤ length ms) {c : changes.Checked} (found : c ≡ check_of q) where
+    module _ (l : words ≤ length ms) {c : Checked} (found : c ≡ check_of q) where
       few : {A : Type 0} → length ms < words_for (count_of s) → A
       few m = absurd (omega (arith, enough))
 
-      pub batch_3 : {n : ℕ} {a : Answer} {r : Batched} → n ≡ checked_number c → (n ≡ 0 → ⊥) → a ≡ of_checked c → r ≡ refused_with a → Batches s ms q r s ms
-      batch_3 {a = a} {r = r} e z f p = record {
+      pub batch_3 : {a : BatchError} {r : Batched} (d : RecordError) → c ≡ Err d → a ≡ of_record_error d → r ≡ refused_with a → Batches s ms q r s ms
+      batch_3 {a = a} {r = r} d e f p = record {
         not_store = λ i. no_store i;
         few_marks = λ i m. few m;
         bad_records = λ i m n.
-            subst (λ (k : ℕ). Refuses s r s ms k ms) (ap answer_number (f ∙ ap of_checked found) ∙ checked_number_lem (check_of q) n) (refuses a ms p refl refl);
+            subst (λ (k : ℕ). Refuses s r s ms k ms) (ap batch_error_number f ∙ record_number d ∙ ap checked_number (sym e ∙ found)) (refuses a ms p refl refl);
         fails = λ i m n k. flawed n;
         runs = λ g m n. flawed n;
       }
         where
-          flawed : {A : Type 0} → check_of q ≡ checked.Fine → A
-          flawed n = absurd (z (e ∙ ap checked_number (found ∙ n)))
+          flawed : {A : Type 0} → check_of q ≡ Ok tt → A
+          flawed n = absurd (let z = sym e ∙ found ∙ n in cc)
 
-      module _ {n : ℕ} (e : n ≡ checked_number c) (z : n ≡ 0) {v : Verdict} {ns : List ℕ} (audit : Audits s ms v ns) {m : ℕ} (told-as : m ≡ audit_number v) where
-        fine : check_of q ≡ checked.Fine
-        fine = sym found ∙ fine_is c (sym e ∙ z)
+      module _ (z : c ≡ Ok tt) {v : Verdict} {ns : List ℕ} (audit : Audits s ms v ns) where
+        fine : check_of q ≡ Ok tt
+        fine = sym found ∙ z
 
-        pub batch_4 : {r : Batched} → (m ≡ 0 → ⊥) → r ≡ refused_with Fails → Batches s ms q r s ns
+        pub batch_4 : {r : Batched} → (audit_number v ≡ 0 → ⊥) → r ≡ refused_with Fails → Batches s ms q r s ns
         batch_4 {r} y p = record {
           not_store = λ i. no_store i;
           few_marks = λ i k. few k;
           bad_records = λ i k g. absurd (g fine);
           fails = λ i k g no. refuses Fails (zeros (length ms)) p refl (audit.fails i k no).marks;
-          runs = λ g k w. absurd (y (told-as ∙ (audit.passes g k).number_is));
+          runs = λ g k w. absurd (y (audit.passes g k).number_is);
         }
 
-        pub batch_5 : {r : Batched} {os t : List ℕ} → Bytes q → m ≡ 0 → length ns ≡ length ms → os ≡ zeros (length ns)
-            → (check_of q ≡ checked.Fine → (r ≡ batched_of (batch_m (records_of q) s)) × (t ≡ (batch_m (records_of q) s).store)) → Batches s ms q r t os
+        pub batch_5 : {r : Batched} {os t : List ℕ} → Bytes q → audit_number v ≡ 0 → length ns ≡ length ms → os ≡ zeros (length ns)
+            → (check_of q ≡ Ok tt → (r ≡ batched_of (batch_m (records_of q) s)) × (t ≡ (batch_m (records_of q) s).store)) → Batches s ms q r t os
         batch_5 {r} {os} {t} small y same clear ran = record {
           not_store = λ i. no_store i;
           few_marks = λ i k. few k;
           bad_records = λ i k g. absurd (g fine);
-          fails = λ i k g no. absurd (omega (arith, told-as, (audit.fails i k no).number_is));
+          fails = λ i k g no. absurd (omega (arith, (audit.fails i k no).number_is));
           runs = λ g k w. finished_lem g;
         }
           where

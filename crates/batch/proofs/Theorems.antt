@@ -5,7 +5,8 @@ use mathlib.Core.Logic.{◌⊎◌, inl, inr}
 use mathlib.Core.List.{List, [], ◌∷◌, ◌++◌}
 use mathlib.Core.Bool.{Bool, true, false, cond, ◌&&◌}
 use mathlib.Core.Option.{some}
-use Prim.Native.Nat.{ℕ, zero, suc, ◌≤◌, ◌<◌}
+use Rattle.std.specs.Prelude.{Result}
+use Prim.Native.Nat.{ℕ, ◌≤◌, ◌<◌}
 use lib.ListN.{length, take}
 use lib.Dec.{leb, eqb}
 use native.Mathlib.Omega.{arith}
@@ -18,7 +19,7 @@ use Rattle.tree.specs.State.{rooted}
 use Rattle.tree.specs.Run as tree
 use Rattle.tree.proofs.Cases.{by_bool}
 use Rattle.tree.proofs.BatchLaws.{apply_append}
-use Rattle.slots.specs.declared.Formatted.{Formatted}
+use Rattle.slots.specs.declared.FormatError.{FormatError}
 use Rattle.slots.specs.Limits.{most_slots}
 use Rattle.slots.specs.Layout.{count_of, is_store}
 use Rattle.slots.specs.Stands.{Audited}
@@ -30,18 +31,16 @@ use Rattle.slots.proofs.AuditedLaws.{audited_store}
 use Rattle.slots.proofs.Theorems.{formatted_audited, formatted_empty}
 use Rattle.audit.specs.Marks.{words_for}
 use Rattle.audit.proofs.Theorems.{audited_or_not}
-use Rattle.changes.specs.declared.Checked as changes
-use Rattle.changes.specs.declared.Checked.TheVariants as checked
-use Rattle.changes.specs.Records.{checked_number, check_of, records_of}
+use Rattle.std.specs.Prelude.{Ok, Err}
+use Rattle.changes.specs.Records.{Checked, checked_number, check_of, records_of}
 use Rattle.changes.proofs.FineLaws.{fine_records}
 use Rattle.outcome.specs.RunMirror as M
 use Rattle.btree.proofs.Runs.{FitRecs, end_of, batch_m}
 use Rattle.btree.proofs.Corollaries as btree
 use Rattle.btree.proofs.Corollaries.{batch_ends, batch_audited}
-use Rattle.batch.specs.declared.Answer.{Answer}
-use Rattle.batch.specs.declared.Answer.TheVariants.{Done, NotStore, FewMarks, Short, LongKey, BadValue, Falls, TooMany, Fails, NoRoom, BadText}
+use Rattle.batch.specs.declared.BatchError.TheVariants.{NotStore, FewMarks, Short, LongKey, BadValue, Falls, TooMany, Fails, NoRoom, BadText}
 use Rattle.batch.specs.declared.Batched.{Batched}
-use Rattle.batch.specs.Contract.{answer_number, told, Refuses, Runs, Batches}
+use Rattle.batch.specs.Contract.{Answer, answer_number, told, Refuses, Runs, Batches}
 use Rattle.batch.specs.Made.{Made, formatted, changed}
 use Rattle.batch.proofs.BatchCode.{recs_fit}
 
@@ -49,21 +48,21 @@ use Rattle.batch.proofs.BatchCode.{recs_fit}
 
 abbrev answer_of : ℕ → Answer
 answer_of n =
-    cond (eqb n 0) Done (cond (eqb n 1) NotStore (cond (eqb n 2) FewMarks (cond (eqb n 3) Short (cond (eqb n 4) LongKey
-    (cond (eqb n 5) BadValue (cond (eqb n 6) Falls (cond (eqb n 7) TooMany (cond (eqb n 8) Fails (cond (eqb n 9) NoRoom BadText)))))))))
+    cond (eqb n 0) (Ok tt) (Err (cond (eqb n 1) NotStore (cond (eqb n 2) FewMarks (cond (eqb n 3) Short (cond (eqb n 4) LongKey
+    (cond (eqb n 5) BadValue (cond (eqb n 6) Falls (cond (eqb n 7) TooMany (cond (eqb n 8) Fails (cond (eqb n 9) NoRoom BadText))))))))))
 
 told_by : (a : Answer) → answer_of (answer_number a) ≡ a
-told_by Done = refl
-told_by NotStore = refl
-told_by FewMarks = refl
-told_by Short = refl
-told_by LongKey = refl
-told_by BadValue = refl
-told_by Falls = refl
-told_by TooMany = refl
-told_by Fails = refl
-told_by NoRoom = refl
-told_by BadText = refl
+told_by (Ok _) = refl
+told_by (Err NotStore) = refl
+told_by (Err FewMarks) = refl
+told_by (Err Short) = refl
+told_by (Err LongKey) = refl
+told_by (Err BadValue) = refl
+told_by (Err Falls) = refl
+told_by (Err TooMany) = refl
+told_by (Err Fails) = refl
+told_by (Err NoRoom) = refl
+told_by (Err BadText) = refl
 
 pub same_batched : (r q : Batched) → answer_number r.answer ≡ answer_number q.answer → r.applied ≡ q.applied → r ≡ q
 same_batched r q e f =
@@ -72,7 +71,7 @@ same_batched r q e f =
 
 -- ---- the runs' bytes, answer and count are those of the mirrors
 
-module _ (s ms q : List ℕ) (r : Batched) (t ns : List ℕ) (h : Audited s) (small : Bytes q) (fine : check_of q ≡ checked.Fine) (w : Runs s h ms q r t ns) where
+module _ (s ms q : List ℕ) (r : Batched) (t ns : List ℕ) (h : Audited s) (small : Bytes q) (fine : check_of q ≡ Ok tt) (w : Runs s h ms q r t ns) where
   abbrev recs : List (Rec ℕ)
   recs = records_of q
 
@@ -103,27 +102,16 @@ module _ (s ms q : List ℕ) (r : Batched) (t ns : List ℕ) (h : Audited s) (sm
 
 -- ---- one result
 
-fine_or_not : (c : changes.Checked) → (c ≡ checked.Fine) ⊎ (c ≡ checked.Fine → ⊥)
-fine_or_not c = by_number (checked_number c) refl
-  where
-    fine_is : (c : changes.Checked) → checked_number c ≡ 0 → c ≡ checked.Fine
-    fine_is checked.Fine e = refl
-    fine_is checked.Short e = absurd (omega arith)
-    fine_is checked.LongKey e = absurd (omega arith)
-    fine_is checked.BadValue e = absurd (omega arith)
-    fine_is checked.Falls e = absurd (omega arith)
-    fine_is checked.TooMany e = absurd (omega arith)
-
-    by_number : (n : ℕ) → checked_number c ≡ n → (c ≡ checked.Fine) ⊎ (c ≡ checked.Fine → ⊥)
-    by_number zero e = inl (fine_is c e)
-    by_number (suc n) e = inr (λ f. omega (arith, e, ap checked_number f))
+fine_or_not : (c : Checked) → (c ≡ Ok tt) ⊎ (c ≡ Ok tt → ⊥)
+fine_or_not (Ok _) = inl refl
+fine_or_not (Err e) = inr (λ f. cc)
 
 -- every way that a batch can go, by which of the contract's cases holds
 pub cases : {A : Type 0} (s ms q : List ℕ) → Bytes s
     → (is_store s ≡ false → A) → (is_store s ≡ true → length ms < words_for (count_of s) → A)
-    → (is_store s ≡ true → words_for (count_of s) ≤ length ms → (check_of q ≡ checked.Fine → ⊥) → A)
-    → (is_store s ≡ true → words_for (count_of s) ≤ length ms → check_of q ≡ checked.Fine → (Audited s → ⊥) → A)
-    → (Audited s → words_for (count_of s) ≤ length ms → check_of q ≡ checked.Fine → A) → A
+    → (is_store s ≡ true → words_for (count_of s) ≤ length ms → (check_of q ≡ Ok tt → ⊥) → A)
+    → (is_store s ≡ true → words_for (count_of s) ≤ length ms → check_of q ≡ Ok tt → (Audited s → ⊥) → A)
+    → (Audited s → words_for (count_of s) ≤ length ms → check_of q ≡ Ok tt → A) → A
 cases {A} s ms q bs one two three eight run =
     by_bool (is_store s)
     (λ is. by_bool (leb (words_for (count_of s)) (length ms))
@@ -131,11 +119,11 @@ cases {A} s ms q bs one two three eight run =
     (λ p. two is (leb-false (words_for (count_of s)) (length ms) p)))
     (λ no. one no)
   where
-    passed_lem : is_store s ≡ true → words_for (count_of s) ≤ length ms → check_of q ≡ checked.Fine → Audited s ⊎ (Audited s → ⊥) → A
+    passed_lem : is_store s ≡ true → words_for (count_of s) ≤ length ms → check_of q ≡ Ok tt → Audited s ⊎ (Audited s → ⊥) → A
     passed_lem is le f (inl h) = run h le f
     passed_lem is le f (inr n) = eight is le f n
 
-    records : is_store s ≡ true → words_for (count_of s) ≤ length ms → (check_of q ≡ checked.Fine) ⊎ (check_of q ≡ checked.Fine → ⊥) → A
+    records : is_store s ≡ true → words_for (count_of s) ≤ length ms → (check_of q ≡ Ok tt) ⊎ (check_of q ≡ Ok tt → ⊥) → A
     records is le (inl f) = passed_lem is le f (audited_or_not s bs is)
     records is le (inr n) = three is le n
 
@@ -179,7 +167,7 @@ refused_unchanged s ms q r t ns bs a z n =
 
 -- ---- Demand 3: "A batch run to its end and run again at once gives the same answer and changes no byte."
 
-pub run_again : (s ms q : List ℕ) (r : Batched) (t ns : List ℕ) → Audited s → words_for (count_of s) ≤ length ms → Bytes q → check_of q ≡ checked.Fine → Batches s ms q r t ns
+pub run_again : (s ms q : List ℕ) (r : Batched) (t ns : List ℕ) → Audited s → words_for (count_of s) ≤ length ms → Bytes q → check_of q ≡ Ok tt → Batches s ms q r t ns
     → answer_number r.answer ≡ 0 → (ms' : List ℕ) (r' : Batched) (t' ns' : List ℕ) → words_for (count_of t) ≤ length ms' → Batches t ms' q r' t' ns' → (r' ≡ r) × (t' ≡ t)
 run_again s ms q r t ns h l small f a e ms' r' t' ns' l' b =
     let rs = records_of q in
@@ -202,7 +190,7 @@ run_again s ms q r t ns h l small f a e ms' r' t' ns' l' b =
 -- "Batch A and then batch B give the entries that one merged batch gives from the same store, B winning where both name a key,
 -- provided all three runs reach their end." qa, qb and qm are the records of A, of B and of the merged batch.
 pub a_then_b : (s qa qb qm ms : List ℕ) (ra rb rm : Batched) (ta tb tm na nb nm : List ℕ) → Audited s → words_for (count_of s) ≤ length ms → words_for (count_of ta) ≤ length ms
-    → Bytes qa → Bytes qb → Bytes qm → check_of qa ≡ checked.Fine → check_of qb ≡ checked.Fine → check_of qm ≡ checked.Fine → records_of qm ≡ merge (records_of qa) (records_of qb)
+    → Bytes qa → Bytes qb → Bytes qm → check_of qa ≡ Ok tt → check_of qb ≡ Ok tt → check_of qm ≡ Ok tt → records_of qm ≡ merge (records_of qa) (records_of qb)
     → Batches s ms qa ra ta na → Batches ta ms qb rb tb nb → Batches s ms qm rm tm nm
     → answer_number ra.answer ≡ 0 → answer_number rb.answer ≡ 0 → answer_number rm.answer ≡ 0 → entries_of tm ≡ entries_of tb
 a_then_b s qa qb qm ms ra rb rm ta tb tm na nb nm h l l' ba bb bm fa fb fm merged a b m za zb zm =
@@ -240,7 +228,7 @@ sized_lem len n e = let a = and_both (leb 1 n) _ e in let b = and_both (leb n mo
     and_both true b e = (refl, e)
     and_both false b e = absurd (let z : ◌≡◌ {A = ℕ} 0 1 = cc in omega arith)
 
-made_fresh : (s : List ℕ) (n : ℕ) (r : Formatted) (t : List ℕ) → Formats s n r t → format_number r ≡ 0 → WellMade t []
+made_fresh : (s : List ℕ) (n : ℕ) (r : Result (Unit {0}) FormatError) (t : List ℕ) → Formats s n r t → format_number r ≡ 0 → WellMade t []
 made_fresh s n r t f z =
     by_bool (has_size (length s) n)
     (λ e.
@@ -264,7 +252,7 @@ made_lem t rs (changed s ms q r u ns qs m small b) =
     (λ p. records w h (leb-true (words_for (count_of s)) (length ms) p) (fine_or_not (check_of q)))
     (λ p. let a = b.few_marks (audited_store s h) (leb-false (words_for (count_of s)) (length ms) p) in made_same s t qs (records_of q) r.applied a.store a.applied w)
   where
-    records : WellMade s qs → Audited s → words_for (count_of s) ≤ length ms → (check_of q ≡ checked.Fine) ⊎ (check_of q ≡ checked.Fine → ⊥) → WellMade t (qs ++ take r.applied (records_of q))
+    records : WellMade s qs → Audited s → words_for (count_of s) ≤ length ms → (check_of q ≡ Ok tt) ⊎ (check_of q ≡ Ok tt → ⊥) → WellMade t (qs ++ take r.applied (records_of q))
     records w h l (inl f) =
         let v = b.runs h l f in
         record {

@@ -1,5 +1,5 @@
 -- What a batch answers for all inputs, and what every lent byte and word holds afterwards. Assumes nothing.
-use Rattle.std.specs.Prelude.{◌≡◌, List, true, false, ℕ, ◌≤◌, ◌<◌, length}
+use Rattle.std.specs.Prelude.{◌≡◌, List, true, false, ℕ, ◌≤◌, ◌<◌, length, Result, Ok}
 use Rattle.word.specs.Num.{zeros}
 use Rattle.tree.specs.Free.{stack}
 use Rattle.tree.specs.Run as tree
@@ -7,25 +7,31 @@ use Rattle.tree.specs.Run.{Outcome}
 use Rattle.slots.specs.Layout.{count_of, is_store}
 use Rattle.slots.specs.Stands.{StandsTree, Audited}
 use Rattle.audit.specs.Marks.{words_for}
-use Rattle.changes.specs.declared.Checked.TheVariants.{Fine}
 use Rattle.changes.specs.Records.{checked_number, check_of, records_of}
-use Rattle.batch.specs.declared.Answer.{Answer}
-use Rattle.batch.specs.declared.Answer.TheVariants.{Done, NotStore, FewMarks, Short, LongKey, BadValue, Falls, TooMany, Fails, NoRoom, BadText}
+use Rattle.refusal.specs.Number as refusal
+use Rattle.batch.specs.declared.BatchError.{BatchError}
+use Rattle.batch.specs.declared.BatchError.TheVariants.{NotStore, FewMarks, Short, LongKey, BadValue, Falls, TooMany, Fails, NoRoom, BadText}
 use Rattle.batch.specs.declared.Batched.{Batched}
 
 -- 01's numbers
+abbrev pub batch_error_number : BatchError → ℕ
+batch_error_number NotStore = 1
+batch_error_number FewMarks = 2
+batch_error_number Short = 3
+batch_error_number LongKey = 4
+batch_error_number BadValue = 5
+batch_error_number Falls = 6
+batch_error_number TooMany = 7
+batch_error_number Fails = 8
+batch_error_number NoRoom = 9
+batch_error_number BadText = 15
+
+-- what a batch answers
+abbrev pub Answer : Type 0
+Answer = Result (Unit {0}) BatchError
+
 abbrev pub answer_number : Answer → ℕ
-answer_number Done = 0
-answer_number NotStore = 1
-answer_number FewMarks = 2
-answer_number Short = 3
-answer_number LongKey = 4
-answer_number BadValue = 5
-answer_number Falls = 6
-answer_number TooMany = 7
-answer_number Fails = 8
-answer_number NoRoom = 9
-answer_number BadText = 15
+answer_number = refusal.answer_number batch_error_number
 
 -- A refusal: "records applied (0 unless 0 or 9 ..)", the store unchanged, and what the lent mark words hold then.
 pub record Refuses (s : List ℕ) (r : Batched) (t ns : List ℕ) (number : ℕ) (left : List ℕ) : Type 0 where
@@ -53,6 +59,6 @@ pub record Batches (s ms q : List ℕ) (r : Batched) (t ns : List ℕ) : Type 0 
   pub not_store : is_store s ≡ false → Refuses s r t ns 1 ms
   pub few_marks : is_store s ≡ true → length ms < words_for (count_of s) → Refuses s r t ns 2 ms
   -- "marks unchanged on 1 to 7": 3 to 7, by the records alone
-  pub bad_records : is_store s ≡ true → words_for (count_of s) ≤ length ms → (check_of q ≡ Fine → ⊥) → Refuses s r t ns (checked_number (check_of q)) ms
-  pub fails : is_store s ≡ true → words_for (count_of s) ≤ length ms → check_of q ≡ Fine → (Audited s → ⊥) → Refuses s r t ns 8 (zeros (length ms))
-  pub runs : (h : Audited s) → words_for (count_of s) ≤ length ms → check_of q ≡ Fine → Runs s h ms q r t ns
+  pub bad_records : is_store s ≡ true → words_for (count_of s) ≤ length ms → (check_of q ≡ Ok tt → ⊥) → Refuses s r t ns (checked_number (check_of q)) ms
+  pub fails : is_store s ≡ true → words_for (count_of s) ≤ length ms → check_of q ≡ Ok tt → (Audited s → ⊥) → Refuses s r t ns 8 (zeros (length ms))
+  pub runs : (h : Audited s) → words_for (count_of s) ≤ length ms → check_of q ≡ Ok tt → Runs s h ms q r t ns

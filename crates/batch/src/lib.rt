@@ -1,101 +1,87 @@
 // A batch on a store: the refusals in 01's order, the audit, and then the runs.
 #![tactic(auto)]
 
-ghost use Rattle.std.specs.Prelude.{◌≡◌};
+ghost use Rattle.std.specs.Prelude.{◌≡◌, Ok};
 ghost use Rattle.tree.specs.Batch.{runs_of};
-ghost use Rattle.changes.specs.declared.Checked.TheVariants.{Fine};
 ghost use Rattle.changes.specs.Records.{check_of, records_of};
 ghost use Rattle.outcome.specs.RunMirror.{start_m, run_all_m};
-ghost use Rattle.batch.specs.Contract.{answer_number, Batches};
-ghost use Rattle.batch.specs.Code.{refused_with, of_checked, batched_of};
+ghost use Rattle.batch.specs.Contract.{batch_error_number, Batches};
+ghost use Rattle.batch.specs.Code.{refused_with, of_record_error, batched_of};
 
-use btree::records::Acted;
-use changes::Checked;
+use btree::records::RunError;
+use changes::RecordError;
+use refusal::Refusal;
 
-#[derive(Clone, Copy)]
-pub enum Answer {
-    Done,
-    NotStore,
-    FewMarks,
-    Short,
-    LongKey,
-    BadValue,
-    Falls,
-    TooMany,
-    Fails,
-    NoRoom,
+// Why a batch is refused, by 01's numbers.
+#[derive(Clone, Copy, PartialEq, Eq)]
+pub enum BatchError {
+    NotStore = 1,
+    FewMarks = 2,
+    Short = 3,
+    LongKey = 4,
+    BadValue = 5,
+    Falls = 6,
+    TooMany = 7,
+    Fails = 8,
+    NoRoom = 9,
     // Given by who reads the records from lines.
-    BadText,
+    BadText = 15,
 }
 
-// "An answer has the number and records applied".
-#[derive(Clone, Copy)]
-pub struct Batched {
-    pub answer: Answer,
-    pub applied: usize,
+impl Refusal for BatchError {
+    ghost number_of = { batch_error_number };
+
+    fn number(self) -> u32 {
+        self as u32
+    }
 }
 
-impl Answer {
-    // 01's number.
-    pub fn number(self) -> u32
-        ensures { result ≡ answer_number self }
-    {
-        match self {
-            Answer::Done => 0,
-            Answer::NotStore => 1,
-            Answer::FewMarks => 2,
-            Answer::Short => 3,
-            Answer::LongKey => 4,
-            Answer::BadValue => 5,
-            Answer::Falls => 6,
-            Answer::TooMany => 7,
-            Answer::Fails => 8,
-            Answer::NoRoom => 9,
-            Answer::BadText => 15,
+impl From<RecordError> for BatchError {
+    ghost from_gives = { λ e b. b ≡ of_record_error e };
+
+    fn from(error: RecordError) -> BatchError {
+        match error {
+            RecordError::Short => BatchError::Short,
+            RecordError::LongKey => BatchError::LongKey,
+            RecordError::BadValue => BatchError::BadValue,
+            RecordError::Falls => BatchError::Falls,
+            RecordError::TooMany => BatchError::TooMany,
         }
     }
 }
 
-fn refused(answer: Answer) -> Batched
-    ensures { result ≡ refused_with answer }
-{
-    Batched {
-        answer: answer,
-        applied: 0,
-    }
+// "An answer has the number and records applied": at 9 both a refusal and a count, so no Result of a count.
+#[derive(Clone, Copy)]
+pub struct Batched {
+    pub answer: Result<(), BatchError>,
+    pub applied: usize,
 }
 
-// The refusal of a batch's records; records that are fine are no refusal.
-fn of_checked(checked: Checked) -> Answer
-    ensures { result ≡ of_checked checked }
+fn refused(error: BatchError) -> Batched
+    ensures { result ≡ refused_with error }
 {
-    match checked {
-        Checked::Fine => Answer::Done,
-        Checked::Short => Answer::Short,
-        Checked::LongKey => Answer::LongKey,
-        Checked::BadValue => Answer::BadValue,
-        Checked::Falls => Answer::Falls,
-        Checked::TooMany => Answer::TooMany,
+    Batched {
+        answer: Err(error),
+        applied: 0,
     }
 }
 
 // The runs, behind the empty root of a store that has none.
 fn run_batch(store: &mut [u8], records: &[u8]) -> Batched
-    ensures { check_of records.now ≡ Fine → (result ≡ batched_of (run_all_m (runs_of (records_of records.now)) (start_m store.old))) × (store.new ≡ (run_all_m (runs_of (records_of records.now)) (start_m store.old)).store) }
+    ensures { check_of records.now ≡ Ok tt → (result ≡ batched_of (run_all_m (runs_of (records_of records.now)) (start_m store.old))) × (store.new ≡ (run_all_m (runs_of (records_of records.now)) (start_m store.old)).store) }
 {
     insertion::start(store);
     let ended = btree::records::run_all(store, records);
     let applied = ended.applied;
-    let acted = ended.acted;
-    match acted {
-        Acted::Done => Batched {
-            answer: Answer::Done,
-            applied: applied,
+    match ended.acted {
+        Ok(()) => Batched {
+            answer: Ok(()),
+            applied,
         },
-        Acted::Bad => refused(Answer::Fails),
-        Acted::NoRoom => Batched {
-            answer: Answer::NoRoom,
-            applied: applied,
+        Err(RunError::BadBytes) => refused(BatchError::Fails),
+        Err(RunError::NoRoom) => Batched {
+            answer: Err(BatchError::NoRoom),
+            applied,
         },
     }
 }
@@ -105,18 +91,16 @@ pub fn batch(store: &mut [u8], marks: &mut [u64], records: &[u8]) -> Batched
     ensures { Batches store.old marks.old records.now result store.new marks.new }
 {
     if !slots::is_store(store) {
-        return refused(Answer::NotStore);
+        return refused(BatchError::NotStore);
     }
     if marks.len() < audit::words_for(slots::count(store)) {
-        return refused(Answer::FewMarks);
+        return refused(BatchError::FewMarks);
     }
-    let checked = changes::check(records);
-    if checked.number() != 0 {
-        return refused(of_checked(checked));
+    if let Err(error) = changes::check(records) {
+        return refused(BatchError::from(error));
     }
-    let verdict = audit::audit(store, marks);
-    if verdict.number() != 0 {
-        return refused(Answer::Fails);
+    if audit::audit(store, marks).is_err() {
+        return refused(BatchError::Fails);
     }
     audit::clear_marks(marks);
     run_batch(store, records)

@@ -2,51 +2,44 @@
 -- Assumes nothing.
 use mathlib.Core.Path.{◌≡◌, refl, sym, ap, subst, ◌∙◌}
 use mathlib.Core.List.{List, []}
-use mathlib.Core.Bool.{true, false}
-use mathlib.Core.Option.{Option, none, some}
+use mathlib.Core.Option.{Option}
 use Prim.Native.Nat.{ℕ, suc, ◌+◌, ◌-◌, ◌≤◌, ◌<◌}
 use lib.ListN.{length, take, drop}
 use native.Mathlib.Omega.{arith}
-use Rattle.word.specs.Pick.{pick, pick_t, pick_f}
 use Rattle.word.specs.Key.{Key}
 use Rattle.word.specs.Num.{Bytes}
-use Rattle.tree.proofs.Cases.{by_bool}
 use Rattle.tree.specs.Batch as batch
 use Rattle.tree.specs.Batch.{runs_of}
 use Rattle.changes.specs.declared.Change.{Change}
-use Rattle.changes.specs.declared.Checked.TheVariants.{Fine}
+use Rattle.std.specs.Prelude as std
+use Rattle.std.specs.Prelude.{Some, None, Ok, Err, IsSome, IfSome}
+use Rattle.node.specs.declared.Value.{Value}
 use Rattle.changes.specs.declared.Run.{Run}
 use Rattle.changes.specs.Fit.{FitOp}
-use Rattle.changes.specs.Records.{most_records, key_at, op_at, stands_at, change_at, check_from, check_of, records_from, records_of}
+use Rattle.changes.specs.Records.{most_records, key_at, next_at, op_of, op_at, change_at, check_from, check_of, records_from, records_of}
 use Rattle.changes.specs.Mirror.{flaw_at}
 use Rattle.changes.specs.RunAt.{run_at}
-use Rattle.changes.proofs.RecordLaws.{flaw_sound, sound_flaw, stands_true, change_within, key_lent, op_is}
+use Rattle.changes.proofs.RecordLaws.{impossible, flaw_sound, sound_flaw, change_there, key_lent, op_is}
 use Rattle.changes.proofs.FineLaws.{Chain, ended, more, fine_chain, starts_before, records_ended, sound_fits}
 use Rattle.changes.proofs.RunsLaws.{FirstRun, first_run}
-use Rattle.btree.specs.declared.records.Acted.{Acted}
-use Rattle.btree.specs.declared.records.Acted.TheVariants as acted
+use Rattle.btree.specs.declared.records.RunError.{RunError}
+use Rattle.btree.specs.declared.records.RunError.TheVariants.{BadBytes}
 use Rattle.btree.specs.declared.records.Ran.{Ran}
 use Rattle.outcome.specs.RunMirror as M
 use Rattle.outcome.specs.RunMirror.{Did, act_m, Ended, onward_m, run_all_m}
-use Rattle.btree.specs.RunCode.{acted_of, Acts, Ends}
-use Rattle.btree.proofs.RunCode.{acted_number}
+use Rattle.btree.specs.RunCode.{Acted, acted_of, Acts, Ends}
 
 -- ---- one run
 
--- the key that is lent lies within the records, whatever stands there
-pub change_in : (q : List ℕ) (at : ℕ) {c : Change} → c ≡ change_at q at → (c.start ≤ c.next) × (c.next ≤ length q)
-change_in q at {c} read =
-    by_bool (stands_at q at) (λ e. change_within q at read (stands_true q at e))
-    (λ e. let z : c ≡ record { set = false; value = 0; start = 0; len = 0; next = 0 } = read ∙ nothing e in rw z (omega arith, omega arith))
-  where
-    nothing : stands_at q at ≡ false → change_at q at ≡ record { set = false; value = 0; start = 0; len = 0; next = 0 }
-    nothing e = unfold change_at in pick_f _ _ e
+fit_some : (o : std.Option Value) → FitOp (op_of o) → IfSome o (λ (v : Value). 0 < v.0)
+fit_some None f = tt
+fit_some (Some v) f = f.0
 
 module _ (s q : List ℕ) (at : ℕ) {f : Run} (found : f ≡ run_at q at) where
   abbrev RunTo : Ran → List ℕ → Type 0
   RunTo r t =
       (r.size ≡ (run_at q at).size) × (r.next ≡ (run_at q at).next)
-      × (0 < (run_at q at).size → flaw_at q (run_at q at).last ≡ Fine → Acts (act_m s (key_at q (run_at q at).last) (op_at q (run_at q at).last)) r.acted t)
+      × (0 < (run_at q at).size → flaw_at q (run_at q at).last ≡ Ok tt → Acts (act_m s (key_at q (run_at q at).last) (op_at q (run_at q at).last)) r.acted t)
 
   size_is : f.size ≡ (run_at q at).size
   size_is = ap (λ (x : Run). x.size) found
@@ -54,25 +47,28 @@ module _ (s q : List ℕ) (at : ℕ) {f : Run} (found : f ≡ run_at q at) where
   behind_is : f.next ≡ (run_at q at).next
   behind_is = ap (λ (x : Run). x.next) found
 
-  pub run_1 : f.size ≡ 0 → RunTo (record { acted = acted.Bad; size = f.size; next = f.next }) s
-  run_1 h = (size_is, behind_is, λ some fine. absurd (omega (arith, size_is)))
+  pub run_1 : None ≡ change_at q f.last → RunTo (record { acted = Err BadBytes; size = f.size; next = f.next }) s
+  run_1 none = (size_is, behind_is, λ some fine. absurd (there (change_there q f.last none (subst (λ (x : Run). next_at q x.last ≤ length q) (sym found) (flaw_sound q (run_at q at).last fine).whole))))
+    where
+      there : IsSome {T = Change} None → ⊥
+      there e = impossible e
 
-  pub run_2 : {c : Change} (a : Acted) (t : List ℕ) → Bytes q → c ≡ change_at q f.last
-      → ((c.set ≡ true → 0 < c.value) → length (take (c.next - c.start) (drop c.start q)) ≤ 288 → Acts (act_m s (take (c.next - c.start) (drop c.start q)) (pick c.set (some c.value) none)) a t)
+  pub run_2 : {c : Change} (a : Acted) (t : List ℕ) → Bytes q → Some c ≡ change_at q f.last
+      → (IfSome c.value (λ (v : Value). 0 < v.0) → length (take (c.next - c.start) (drop c.start q)) ≤ 288 → Acts (act_m s (take (c.next - c.start) (drop c.start q)) (op_of c.value)) a t)
       → RunTo (record { acted = a; size = f.size; next = f.next }) t
   run_2 {c} a t small read act = (size_is, behind_is, λ some fine. acts fine)
     where
       last : ℕ
       last = (run_at q at).last
 
-      acts : flaw_at q (run_at q at).last ≡ Fine → Acts (act_m s (key_at q (run_at q at).last) (op_at q (run_at q at).last)) a t
+      acts : flaw_at q (run_at q at).last ≡ Ok tt → Acts (act_m s (key_at q (run_at q at).last) (op_at q (run_at q at).last)) a t
       acts fine =
-          let here : c ≡ change_at q (run_at q at).last = read ∙ ap (λ (x : Run). change_at q x.last) found in
+          let here : Some c ≡ change_at q (run_at q at).last = read ∙ ap (λ (x : Run). change_at q x.last) found in
           let sound = flaw_sound q (run_at q at).last fine in
-          let key = key_lent q (run_at q at).last here sound.whole in
-          let op = op_is q (run_at q at).last here sound.whole in
+          let key = key_lent q (run_at q at).last here in
+          let op = op_is q (run_at q at).last here in
           let fit = sound_fits q (run_at q at).last small sound in
-          let valued : c.set ≡ true → 0 < c.value = λ e. (subst FitOp (sym op ∙ pick_t _ _ e) fit.value).0 in
+          let valued : IfSome c.value (λ (v : Value). 0 < v.0) = fit_some c.value (subst FitOp (sym op) fit.value) in
           let short : length (take (c.next - c.start) (drop c.start q)) ≤ 288 = subst (λ (k : Key). length k ≤ 288) (sym key) fit.short in
           subst (λ (k : Key). Acts (act_m s k (op_at q (run_at q at).last)) a t) key
           (subst (λ (o : Option ℕ). Acts (act_m s (take (c.next - c.start) (drop c.start q)) o) a t) op (act valued short))
@@ -88,10 +84,10 @@ pub record RunsLeft (q s₀ s : List ℕ) (at applied n : ℕ) : Type 0 where
   pub left : ℕ
   pub before : Key
   pub few : left + n ≤ most_records
-  pub fine : check_from q left at before ≡ Fine
+  pub fine : check_from q left at before ≡ Ok tt
   pub rest : run_all_m (runs_of (records_of q)) s₀ ≡ counted_on applied (run_all_m (runs_of (records_from q left at)) s)
 
-pub runs_start : (q s : List ℕ) → check_of q ≡ Fine → RunsLeft q s s 0 0 0
+pub runs_start : (q s : List ℕ) → check_of q ≡ Ok tt → RunsLeft q s s 0 0 0
 unfolding check_of records_of
 runs_start q s h = record {
   left = most_records;
@@ -102,7 +98,7 @@ runs_start q s h = record {
 }
 
 module _ (q s₀ s : List ℕ) (at applied n : ℕ) (l : RunsLeft q s₀ s at applied n) where
-  pub runs_end : length q ≤ at → Ends (run_all_m (runs_of (records_of q)) s₀) (record { acted = acted.Done; applied = applied }) s
+  pub runs_end : length q ≤ at → Ends (run_all_m (runs_of (records_of q)) s₀) (record { acted = Ok tt; applied = applied }) s
   runs_end h =
       let over : records_from q l.left at ≡ [] = none_left l.left (fine_chain q l.left at l.before l.fine) in
       let all : run_all_m (runs_of (records_of q)) s₀ ≡ counted_on applied (run_all_m [] s) = l.rest ∙ ap (λ (rs : List (batch.Rec ℕ)). counted_on applied (run_all_m (runs_of rs) s)) over in
@@ -127,7 +123,7 @@ module _ (q s₀ s : List ℕ) (at applied n : ℕ) (l : RunsLeft q s₀ s at ap
     last = (run_at q at).last
 
     module _ (r : Ran) (t : List ℕ)
-        (ran : (r.size ≡ (run_at q at).size) × (r.next ≡ (run_at q at).next) × (0 < (run_at q at).size → flaw_at q last ≡ Fine → Acts (act_m s (key_at q last) (op_at q last)) r.acted t)) where
+        (ran : (r.size ≡ (run_at q at).size) × (r.next ≡ (run_at q at).next) × (0 < (run_at q at).size → flaw_at q last ≡ Ok tt → Acts (act_m s (key_at q last) (op_at q last)) r.acted t)) where
       abbrev did : Did
       did = act_m s (key_at q last) (op_at q last)
 
@@ -140,38 +136,28 @@ module _ (q s₀ s : List ℕ) (at applied n : ℕ) (l : RunsLeft q s₀ s at ap
       step : run_all_m (runs_of (records_of q)) s₀ ≡ counted_on applied (onward_m (run_all_m later) (run_at q at).size did.store did.out)
       step = l.rest ∙ ap (λ (rs : List (batch.Run ℕ)). counted_on applied (run_all_m rs s)) run_first.runs
 
-      which : (a : M.Acted) (c : Acted) → r.acted ≡ c → ((b : M.Acted) → acted_of b ≡ c → b ≡ a) → did.out ≡ a
-      which a c e only = only did.out (sym acts.0 ∙ e)
+      only_done : (b : M.Acted) → r.acted ≡ Ok tt → r.acted ≡ acted_of b → b ≡ M.done
+      only_done M.done e h = refl
+      only_done M.bad e h = absurd (cc)
+      only_done M.no_room e h = absurd (cc)
 
-      only_done : (b : M.Acted) → acted_of b ≡ acted.Done → b ≡ M.done
-      only_done M.done e = refl
-      only_done M.bad e = absurd (omega (arith, ap acted_number e))
-      only_done M.no_room e = absurd (omega (arith, ap acted_number e))
+      -- a refused run is the last
+      stops : (b : M.Acted) (d : RunError) → r.acted ≡ Err d → r.acted ≡ acted_of b → onward_m (run_all_m later) (run_at q at).size did.store b ≡ record { out = b; applied = 0; store = did.store }
+      stops M.done d e h = absurd (cc)
+      stops M.bad d e h = refl
+      stops M.no_room d e h = refl
 
-      only_bad : (b : M.Acted) → acted_of b ≡ acted.Bad → b ≡ M.bad
-      only_bad M.done e = absurd (omega (arith, ap acted_number e))
-      only_bad M.bad e = refl
-      only_bad M.no_room e = absurd (omega (arith, ap acted_number e))
+      pub runs_refused : (d : RunError) → r.acted ≡ Err d → Ends (run_all_m (runs_of (records_of q)) s₀) (record { acted = Err d; applied = applied }) t
+      runs_refused d e = rw (step, stops did.out d e acts.0) (record { acted = sym e ∙ acts.0; applied = omega arith; store = acts.1 })
 
-      only_no_room : (b : M.Acted) → acted_of b ≡ acted.NoRoom → b ≡ M.no_room
-      only_no_room M.done e = absurd (omega (arith, ap acted_number e))
-      only_no_room M.bad e = absurd (omega (arith, ap acted_number e))
-      only_no_room M.no_room e = refl
-
-      pub runs_bad : r.acted ≡ acted.Bad → Ends (run_all_m (runs_of (records_of q)) s₀) (record { acted = acted.Bad; applied = applied }) t
-      runs_bad e = rw (step, which M.bad acted.Bad e only_bad) (record { acted = refl; applied = omega arith; store = acts.1 })
-
-      pub runs_no_room : r.acted ≡ acted.NoRoom → Ends (run_all_m (runs_of (records_of q)) s₀) (record { acted = acted.NoRoom; applied = applied }) t
-      runs_no_room e = rw (step, which M.no_room acted.NoRoom e only_no_room) (record { acted = refl; applied = omega arith; store = acts.1 })
-
-      pub runs_turn : r.acted ≡ acted.Done → RunsLeft q s₀ t r.next (applied + r.size) (n + 1)
+      pub runs_turn : r.acted ≡ Ok tt → RunsLeft q s₀ t r.next (applied + r.size) (n + 1)
       runs_turn e =
           let some = run_first.some in
           let few = run_first.few in
           let g : Ended = run_all_m later did.store in
           let sum : applied + ((run_at q at).size + g.applied) ≡ (applied + r.size) + g.applied = omega (arith, ran.0) in
           let on : counted_on applied (onward_m (run_all_m later) (run_at q at).size did.store did.out) ≡ counted_on (applied + r.size) g =
-          ap (λ (a : M.Acted). counted_on applied (onward_m (run_all_m later) (run_at q at).size did.store a)) (which M.done acted.Done e only_done) ∙ (λ i. record { out = g.out; applied = sum i; store = g.store }) in
+          ap (λ (a : M.Acted). counted_on applied (onward_m (run_all_m later) (run_at q at).size did.store a)) (only_done did.out e acts.0) ∙ (λ i. record { out = g.out; applied = sum i; store = g.store }) in
           record {
             left = l.left - (run_at q at).size;
             before = key_at q at;

@@ -7,34 +7,14 @@ use Rattle.node.specs.declared.Value.{Value}
 use Rattle.node.specs.declared.Node.{Node}
 use Rattle.codec.specs.declared.Places.{Places}
 use Rattle.codec.specs.declared.Stopped.{Stopped}
-use Rattle.codec.specs.declared.Written.{Written}
+use Rattle.std.specs.Prelude.{Result}
+use Rattle.codec.specs.declared.WriteError.{WriteError}
 use Rattle.codec.specs.Codec.{ending_number}
 use Rattle.node.specs.Chain.{value_of, child_of}
 use Rattle.codec.specs.Layout.{places_of, written_of, left_by, written_number, written_length}
 use Rattle.codec.specs.Strict.{strict_number, strict_end, standard_of}
-use Rattle.iter.specs.declared.LookedUp.{LookedUp}
-use Rattle.iter.specs.declared.Place.{Place}
-use Rattle.iter.specs.declared.Cursor.{Cursor}
-use Rattle.iter.specs.declared.Stepped.{Stepped}
-use Rattle.iter.specs.declared.Sought.{Sought}
-use Rattle.iter.specs.Walk.{lookup_number}
-use Rattle.iter.specs.Cursor.{sought_number}
-use Rattle.lent.specs.Lent.{present_of, found_value, place_of, cursor_of, Holds, Steps, within}
-use Rattle.capi.specs.Face.{LooksUp, Seeks, ReadsNode, ReadsSeparator, ReadsStrict, ReadsSeparatorStrict, lent_node, WritesNode}
-
-pub looks_up : {a l : LookedUp} {r p v : ℕ} → l ≡ a → p ≡ present_of l → v ≡ found_value l → r ≡ lookup_number l → LooksUp a r p v
-looks_up {r = r} {p = p} {v = v} e f g h = subst (λ (x : LookedUp). LooksUp x r p v) e (record { number = h; is_present = f; value_is = g })
-
--- ---- a cursor left behind
-
-pub seeks : {a t : Sought} {k n r k' n' : ℕ} {b b' : List ℕ} → t ≡ a → r ≡ sought_number t → Holds r t.cursor k n b k' n' b' → Seeks a k n b r k' n' b'
-seeks {t = t} {k = k} {n = n} {r = r} {k' = k'} {n' = n'} {b = b} {b' = b'} e f h =
-    subst (λ (x : Sought). Seeks x k n b r k' n' b') e (record { number = f; cursor = subst (λ (x : ℕ). Holds x t.cursor k n b k' n' b') f h })
-
--- a step f from the cursor that was lent
-pub stepped_by : {k n r k' n' p v : ℕ} {b b' : List ℕ} {t : Stepped} {q : Place} (f : Cursor → Stepped) → q ≡ place_of k n → t ≡ f (record { place = q; key = b }) → Steps t k n b r k' n' b' p v → Steps (f (cursor_of k n b)) k n b r k' n' b' p v
-stepped_by {k = k} {n = n} {r = r} {k' = k'} {n' = n'} {p = p} {v = v} {b = b} {b' = b'} f e g h =
-    subst (λ (x : Stepped). Steps x k n b r k' n' b' p v) (g ∙ ap (λ (x : Place). f (record { place = x; key = b })) e) h
+use Rattle.lent.specs.Lent.{within}
+use Rattle.capi.specs.Face.{ReadsNode, ReadsSeparator, ReadsStrict, ReadsSeparatorStrict, lent_node, WritesNode}
 
 -- ---- node bytes
 
@@ -70,10 +50,10 @@ reads_separator_strict {i = i} e f g h q k = record {
 abbrev node_with : ℕ → List ℕ → List ℕ → List Child → List Value → Node
 node_with count lens keys cs vs = record { count = count; children = cs; values = vs; lens = lens; keys = keys }
 
-written_by : {n : Node} {a : Written} {r w : ℕ} {d d' : List ℕ} → (a ≡ written_of n d) × (d' ≡ left_by (written_of n d) n d) → w ≡ written_length a → r ≡ written_number a → WritesNode n d r d' w
+written_by : {n : Node} {a : Result ℕ WriteError} {r w : ℕ} {d d' : List ℕ} → (a ≡ written_of n d) × (d' ≡ left_by (written_of n d) n d) → w ≡ written_length a → r ≡ written_number a → WritesNode n d r d' w
 written_by e f g = record { number = g ∙ ap written_number e.0; bytes = e.1; length_is = f ∙ ap written_length e.0 }
 
-pub writes : (children values : List ℕ) {lens keys : List ℕ} {count r w : ℕ} {cs : List Child} {vs : List Value} {a : Written} {d d' : List ℕ} → cs ≡ map child_of children → vs ≡ map value_of values
+pub writes : (children values : List ℕ) {lens keys : List ℕ} {count r w : ℕ} {cs : List Child} {vs : List Value} {a : Result ℕ WriteError} {d d' : List ℕ} → cs ≡ map child_of children → vs ≡ map value_of values
     → (a ≡ written_of (node_with count lens keys cs vs) d) × (d' ≡ left_by (written_of (node_with count lens keys cs vs) d) (node_with count lens keys cs vs) d)
     → w ≡ written_length a → r ≡ written_number a → WritesNode (lent_node count children values lens keys) d r d' w
 writes children values {lens = lens} {keys = keys} {count = count} {r = r} {w = w} {vs = vs} {d = d} {d' = d'} e f g h k =

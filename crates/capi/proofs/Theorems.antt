@@ -18,7 +18,7 @@ use Rattle.changes.specs.Records.{encode_records}
 use Rattle.lines.specs.Parses.{parsed_number, parsed_length, taken}
 use Rattle.lines.proofs.Same as lines
 use Rattle.cikolaro.proofs.Theorems as face
-use Rattle.iter.specs.declared.LookedUp.{LookedUp}
+use Rattle.iter.specs.Answer.{Answer}
 use Rattle.iter.specs.declared.Cursor.{Cursor}
 use Rattle.iter.specs.declared.Stepped.{Stepped}
 use Rattle.iter.specs.declared.Sought.{Sought}
@@ -59,7 +59,7 @@ lines_once {s = s} {ms = ms} {buffer = buffer} {text = text} {t = t} {t' = t'} {
       a.count ∙ ap (λ (x : Batched). x.applied) e.0 ∙ sym b.count,
     )
 
-pub lookup_once : {l : LookedUp} {r r' p p' v v' : ℕ} → LooksUp l r p v → LooksUp l r' p' v' → (r ≡ r') × (p ≡ p') × (v ≡ v')
+pub lookup_once : {l : Answer} {r r' p p' v v' : ℕ} → LooksUp l r p v → LooksUp l r' p' v' → (r ≡ r') × (p ≡ p') × (v ≡ v')
 lookup_once a b = (a.number ∙ sym b.number, a.is_present ∙ sym b.is_present, a.value_is ∙ sym b.value_is)
 
 -- one cursor is left

@@ -1,30 +1,28 @@
 -- What the exported functions answer and leave, told by the contracts of the functions that they call. An answer's number is 01's;
 -- what stands beside the number lies in lent numbers, as the crate `lent` tells. Assumes nothing.
-use Rattle.std.specs.Prelude.{◌≡◌, List, map, ℕ}
+use Rattle.std.specs.Prelude.{◌≡◌, List, map, ℕ, Result}
 use Rattle.node.specs.declared.Node.{Node}
 use Rattle.codec.specs.declared.Places.{Places}
 use Rattle.codec.specs.Codec.{ending_number}
 use Rattle.node.specs.Chain.{value_of, child_of}
 use Rattle.codec.specs.Layout.{places_of, written_of, left_by, written_number, written_length}
 use Rattle.codec.specs.Strict.{strict_number, strict_end, standard_of}
-use Rattle.slots.specs.declared.Formatted.{Formatted}
+use Rattle.slots.specs.declared.FormatError.{FormatError}
 use Rattle.slots.specs.Code.{format_number, Formats}
-use Rattle.audit.specs.declared.Verdict.{Verdict}
-use Rattle.audit.specs.Contract.{audit_number, audit_reached, Audits}
+use Rattle.audit.specs.Contract.{Verdict, audit_number, audit_reached, Audits}
 use Rattle.batch.specs.declared.Batched.{Batched}
 use Rattle.batch.specs.Contract.{answer_number, Batches}
-use Rattle.iter.specs.declared.LookedUp.{LookedUp}
 use Rattle.iter.specs.declared.Sought.{Sought}
+use Rattle.iter.specs.Answer.{Answer}
 use Rattle.iter.specs.Walk.{lookup_number}
 use Rattle.iter.specs.Cursor.{sought_number}
-use Rattle.lines.specs.declared.Parsed.{Parsed}
-use Rattle.lines.specs.Parses.{parsed_number, parsed_length, Parses}
+use Rattle.lines.specs.Parses.{Parsed, parsed_number, parsed_length, Parses}
 use Rattle.cikolaro.specs.Contract.{RunsLines}
 use Rattle.lent.specs.Lent.{present_of, found_value, Holds, within}
 
 -- Of store bytes s and a count n: the number r, and the bytes t afterwards.
 pub record FormatsBy (s : List ℕ) (n r : ℕ) (t : List ℕ) : Type 0 where
-  pub answer : Formatted
+  pub answer : Result (Unit {0}) FormatError
   pub formats : Formats s n answer t
   pub number : r ≡ format_number answer
 
@@ -62,7 +60,7 @@ pub record RunsLinesBy (s ms buffer text : List ℕ) (r : ℕ) (t ns left : List
 -- ---- lookup
 
 -- Of a lookup's answer a: the number r, whether a value is present, and the value.
-pub record LooksUp (a : LookedUp) (r present value : ℕ) : Type 0 where
+pub record LooksUp (a : Answer) (r present value : ℕ) : Type 0 where
   pub number : r ≡ lookup_number a
   pub is_present : present ≡ present_of a
   pub value_is : value ≡ found_value a

@@ -22,15 +22,15 @@ pub fn cikolaro_format(store: &mut [u8], count: u32) -> u32
     ensures { FormatsBy store.old count result store.new }
 {
     let formatted = cikolaro::format(store, count);
-    formatted.number()
+    refusal::number(formatted)
 }
 
 pub fn cikolaro_audit(store: &[u8], marks: &mut [u64], reached: &mut usize) -> u32
     ensures { AuditsBy store.now marks.old result marks.new reached.new }
 {
     let verdict = cikolaro::audit(store, marks);
-    *reached = verdict.reached();
-    verdict.number()
+    *reached = verdict.unwrap_or(0);
+    refusal::number(verdict)
 }
 
 pub fn cikolaro_batch(
@@ -44,7 +44,7 @@ pub fn cikolaro_batch(
     let batched = cikolaro::batch(store, marks, records);
     *applied = batched.applied;
     let answer = batched.answer;
-    answer.number()
+    refusal::number(answer)
 }
 
 // ---- house lines
@@ -53,8 +53,8 @@ pub fn cikolaro_parse(text: &[u8], records: &mut [u8], len: &mut usize) -> u32
     ensures { ParsesBy text.now records.old result records.new len.new }
 {
     let parsed = cikolaro::parse(text, records);
-    *len = parsed.length();
-    parsed.number()
+    *len = parsed.unwrap_or(0);
+    refusal::number(parsed)
 }
 
 pub fn cikolaro_run_lines(
@@ -68,8 +68,7 @@ pub fn cikolaro_run_lines(
 {
     let ran = cikolaro::run_lines(store, marks, records, text);
     *applied = ran.applied;
-    let answer = ran.answer;
-    answer.number()
+    refusal::number(ran.answer)
 }
 
 // ---- lookup
@@ -80,7 +79,7 @@ pub fn cikolaro_lookup(store: &[u8], key: &[u8], present: &mut u32, value: &mut 
     let looked = cikolaro::lookup(store, key);
     *present = is_found(looked);
     *value = found_value(looked);
-    looked.number()
+    refusal::number(looked)
 }
 
 // ---- the cursor
@@ -94,6 +93,8 @@ pub fn cikolaro_seek(key: &[u8], kind: &mut u32, len: &mut usize, held: &mut [u8
     number
 }
 
+// This and `cikolaro_backward` differ in the step: a function over both, with the step as a closure, would have a bound, a
+// `requires` and an `ensures` by `F.post` in place of these two lines.
 pub fn cikolaro_forward(
     store: &[u8],
     kind: &mut u32,
@@ -106,13 +107,7 @@ pub fn cikolaro_forward(
 {
     let place = place_of(*kind, *len);
     let key = *held;
-    let stepped = cikolaro::forward(
-        store,
-        Cursor {
-            place: place,
-            key: key,
-        },
-    );
+    let stepped = cikolaro::forward(store, Cursor { place, key });
     answer_step(stepped, kind, len, held, present, value)
 }
 
@@ -128,13 +123,7 @@ pub fn cikolaro_backward(
 {
     let from = place_of(*kind, *len);
     let key = *held;
-    let stepped = cikolaro::backward(
-        store,
-        Cursor {
-            place: from,
-            key: key,
-        },
-    );
+    let stepped = cikolaro::backward(store, Cursor { place: from, key });
     answer_step(stepped, kind, len, held, present, value)
 }
 
@@ -222,7 +211,7 @@ pub fn cikolaro_node_write(
     let held_keys = *keys;
     let wrote = cikolaro::write(
         Node {
-            count: count,
+            count,
             children: held_children,
             values: held_values,
             lens: held_lens,
@@ -230,6 +219,6 @@ pub fn cikolaro_node_write(
         },
         dst,
     );
-    *written = wrote.length();
-    wrote.number()
+    *written = wrote.unwrap_or(0);
+    refusal::number(wrote)
 }

@@ -18,21 +18,16 @@ use Rattle.word.proofs.NumLaws.{bytes_part}
 use Rattle.word.proofs.AtLaws.{read_at_small}
 use Rattle.tree.specs.Batch.{Rec, NoneBelow, NeverFall}
 use Rattle.tree.proofs.Cases.{by_bool, is_lt_lem}
-use Rattle.changes.specs.declared.Checked.{Checked}
-use Rattle.changes.specs.declared.Checked.TheVariants.{Fine, Short, LongKey, BadValue, Falls, TooMany}
-use Rattle.changes.specs.Records.{most_records, kind_at, len_at, value_at, key_at, next_at, op_at, rec_at, is_bad_value, check_from, check_of, records_from, records_of}
+use Rattle.std.specs.Prelude.{Ok, Err}
+use Rattle.changes.specs.Records.{Checked, most_records, kind_at, len_at, value_at, key_at, next_at, op_at, rec_at, is_bad_value, check_from, check_of, records_from, records_of}
 use Rattle.changes.specs.Fit.{FitOp, Fit, AllFit}
 use Rattle.changes.specs.Mirror.{flaw_at, or_else}
 use Rattle.changes.proofs.RecordLaws.{impossible, next_is_lem, Sound, flaw_sound, sound_flaw}
 use Rattle.changes.proofs.CheckLaws.{check_ended, check_many, check_step}
 
-or_else_fine : (f later : Checked) → or_else f later ≡ Fine → (f ≡ Fine) × (later ≡ Fine)
-or_else_fine Fine later e = (refl, e)
-or_else_fine Short later e = impossible (cc)
-or_else_fine LongKey later e = impossible (cc)
-or_else_fine BadValue later e = impossible (cc)
-or_else_fine Falls later e = impossible (cc)
-or_else_fine TooMany later e = impossible (cc)
+or_else_fine : (f later : Checked) → or_else f later ≡ Ok tt → (f ≡ Ok tt) × (later ≡ Ok tt)
+or_else_fine (Ok _) later e = (refl, e)
+or_else_fine (Err d) later e = impossible (cc)
 
 -- ---- a chain of records
 
@@ -42,16 +37,16 @@ module _ (s : List ℕ) where
     ended : {k at : ℕ} {prev : Key} → at ≡ length s → Chain k at prev
     more : {k at : ℕ} {prev : Key} → Sound s at → (Lt (key_at s at) prev → ⊥) → Chain k (next_at s at) (key_at s at) → Chain (suc k) at prev
 
-  step_fine : (k at : ℕ) (prev : Key) → (at ≡ length s → ⊥) → check_from s (suc k) at prev ≡ Fine
-      → (flaw_at s at ≡ Fine) × ((is_lt (cmp (key_at s at) prev) ≡ false) × (check_from s k (next_at s at) (key_at s at) ≡ Fine))
+  step_fine : (k at : ℕ) (prev : Key) → (at ≡ length s → ⊥) → check_from s (suc k) at prev ≡ Ok tt
+      → (flaw_at s at ≡ Ok tt) × ((is_lt (cmp (key_at s at) prev) ≡ false) × (check_from s k (next_at s at) (key_at s at) ≡ Ok tt))
   step_fine k at prev n e =
       let both = or_else_fine (flaw_at s at) _ (sym (check_step s k at prev n) ∙ e) in (
         both.0,
-        by_test (λ (x : Checked). x ≡ Fine → (is_lt (cmp (key_at s at) prev) ≡ false) × (check_from s k (next_at s at) (key_at s at) ≡ Fine)) (is_lt (cmp (key_at s at) prev))
+        by_test (λ (x : Checked). x ≡ Ok tt → (is_lt (cmp (key_at s at) prev) ≡ false) × (check_from s k (next_at s at) (key_at s at) ≡ Ok tt)) (is_lt (cmp (key_at s at) prev))
             (λ l f. impossible (cc)) (λ l f. (l, f)) both.1,
       )
 
-  pub fine_chain : (k at : ℕ) (prev : Key) → check_from s k at prev ≡ Fine → Chain k at prev
+  pub fine_chain : (k at : ℕ) (prev : Key) → check_from s k at prev ≡ Ok tt → Chain k at prev
   fine_chain zero at prev e = by_bool (eqb at (length s)) (λ t. ended (eqb-true _ _ t)) (λ t. impossible (cc (check_many s at prev (eqb-false _ _ t))))
   fine_chain (suc k) at prev e = by_bool (eqb at (length s)) (λ t. ended (eqb-true _ _ t))
       (λ t.
@@ -70,7 +65,7 @@ module _ (s : List ℕ) where
       let step = rw (sound_flaw s at h) at (check_step s k at prev (λ e. omega arith)) in
       step ∙ pick_f _ _ (not_below_lem (key_at s at) prev n)
 
-  pub chain_fine : (k at : ℕ) (prev : Key) → Chain k at prev → check_from s k at prev ≡ Fine
+  pub chain_fine : (k at : ℕ) (prev : Key) → Chain k at prev → check_from s k at prev ≡ Ok tt
   chain_fine k at prev (ended e) = check_ended s k at prev e
   chain_fine (suc k) at prev (more h n c) = check_passes k at prev h n ∙ chain_fine k (next_at s at) (key_at s at) c
 
@@ -162,7 +157,7 @@ pub record FineRecords (s : List ℕ) : Type 0 where
   pub stand : records_of s ≡ map (rec_at s) (places_from s most_records 0)
   pub whole : AllWhole s (places_from s most_records 0)
 
-pub fine_records : (s : List ℕ) → Bytes s → check_of s ≡ Fine → FineRecords s
+pub fine_records : (s : List ℕ) → Bytes s → check_of s ≡ Ok tt → FineRecords s
 unfolding check_of records_of
 fine_records s p e =
     let c = fine_chain s most_records 0 [] e in

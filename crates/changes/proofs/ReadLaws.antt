@@ -18,7 +18,7 @@ use Rattle.word.specs.At.{read_at}
 use Rattle.word.proofs.PartLaws.{length_part, drop_split}
 use Rattle.word.proofs.NumLaws.{le_un, bytes_part}
 use Rattle.word.proofs.AtLaws.{read_at_in}
-use Rattle.changes.specs.declared.Checked.TheVariants.{Fine}
+use Rattle.std.specs.Prelude.{Ok}
 use Rattle.changes.specs.Records.{most_records, kind_at, len_at, value_at, key_at, next_at, op_at, rec_at, is_known, is_bad_value, check_of, records_from, records_of, kind_of, value_of, encode_record, encode_records}
 use Rattle.changes.proofs.RecordLaws.{impossible, next_is_lem, Sound}
 use Rattle.changes.proofs.FineLaws.{Chain, ended, more, fine_chain, records_ended, records_more}
@@ -85,6 +85,6 @@ module _ (s : List ℕ) (bytes : Bytes s) where
   chain_back k at prev (ended e) = let h : length s ≤ at = omega arith in rw (records_ended s k at e) (sym (drop_of_length-le s h))
   chain_back (suc k) at prev (more h n c) = rw (records_more s k at h, chain_back k (next_at s at) (key_at s at) c) (record_back at h)
 
-  pub read_written_lem : check_of s ≡ Fine → encode_records (records_of s) ≡ s
+  pub read_written_lem : check_of s ≡ Ok tt → encode_records (records_of s) ≡ s
   unfolding check_of records_of
   read_written_lem e = chain_back most_records 0 [] (fine_chain s most_records 0 [] e)

@@ -13,7 +13,7 @@ use Rattle.word.proofs.KeyOrder.{cmp_eq, cmp_refl}
 use Rattle.tree.specs.Batch as batch
 use Rattle.tree.specs.Batch.{Rec, with_run, runs_of}
 use Rattle.tree.proofs.Cases.{by_bool, by_cond, is_eq}
-use Rattle.changes.specs.declared.Checked.TheVariants.{Fine}
+use Rattle.std.specs.Prelude.{Ok}
 use Rattle.changes.specs.declared.Run.{Run}
 use Rattle.changes.specs.Records.{most_records, key_at, next_at, stands_at, rec_at, check_from, records_from}
 use Rattle.changes.specs.RunAt.{has_key, run_from, run_at}
@@ -130,7 +130,7 @@ module _ (s : List ℕ) where
     pub behind : r.next ≡ next_at s r.last
     pub same : key_at s r.last ≡ key_at s at
     pub runs : runs_of (records_from s k at) ≡ record { acts = rec_at s r.last; size = r.size } ∷ runs_of (records_from s (k - r.size) r.next)
-    pub fine : check_from s (k - r.size) r.next (key_at s at) ≡ Fine
+    pub fine : check_from s (k - r.size) r.next (key_at s at) ≡ Ok tt
 
   run_at_is : (at : ℕ) → Sound s at → run_at s at ≡ run_from s 65534 (key_at s at) at 1
   unfolding run_at
@@ -152,7 +152,7 @@ module _ (s : List ℕ) where
         fine = chain_fine s (suc k - r.size) r.next (key_at s at) (rw (← z) f.rest);
       }
 
-  pub first_run : (k at : ℕ) (prev : Key) → k ≤ most_records → check_from s k at prev ≡ Fine → at < length s → FirstRun k at (run_at s at)
+  pub first_run : (k at : ℕ) (prev : Key) → k ≤ most_records → check_from s k at prev ≡ Ok tt → at < length s → FirstRun k at (run_at s at)
   first_run k at prev h e b = go k h (fine_chain s k at prev e)
     where
       go : (k : ℕ) → k ≤ most_records → Chain s k at prev → FirstRun k at (run_at s at)

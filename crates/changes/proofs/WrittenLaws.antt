@@ -17,7 +17,8 @@ use Rattle.word.proofs.PartLaws.{part_seam}
 use Rattle.word.proofs.NumLaws.{length_le, un_le}
 use Rattle.word.proofs.AtLaws.{read_at_in}
 use Rattle.tree.specs.Batch.{Rec, NoneBelow, NeverFall}
-use Rattle.changes.specs.declared.Checked.TheVariants.{Fine, TooMany}
+use Rattle.std.specs.Prelude.{Ok, Err}
+use Rattle.changes.specs.declared.RecordError.TheVariants.{TooMany}
 use Rattle.changes.specs.Records.{most_records, kind_at, len_at, value_at, key_at, next_at, op_at, rec_at, is_known, is_bad_value, check_from, check_of, records_from, records_of, kind_of, value_of, encode_record, encode_records}
 use Rattle.changes.specs.Fit.{FitOp, Fit, AllFit}
 use Rattle.changes.proofs.RecordLaws.{next_is_lem, Sound}
@@ -143,7 +144,7 @@ none_below_empty (r ∷ rs) = (not_below_empty r.key, none_below_empty rs)
     not_below_empty (b ∷ k) e = let z : ◌≡◌ {A = ℕ} 0 1 = cc in omega arith
 
 pub record WrittenRead (rs : List (Rec ℕ)) : Type 0 where
-  pub fine : check_of (encode_records rs) ≡ Fine
+  pub fine : check_of (encode_records rs) ≡ Ok tt
   pub same : records_of (encode_records rs) ≡ rs
 
 module _ (rs : List (Rec ℕ)) (fit : AllFit rs) (order : NeverFall rs) where
@@ -162,7 +163,7 @@ module _ (rs : List (Rec ℕ)) (fit : AllFit rs) (order : NeverFall rs) where
       }
 
   -- "7 | a 65,536th record": one byte behind 65,535 records is enough
-  pub too_many : length rs ≡ most_records → (b : ℕ) (q : List ℕ) → check_of (encode_records rs ++ (b ∷ q)) ≡ TooMany
+  pub too_many : length rs ≡ most_records → (b : ℕ) (q : List ℕ) → check_of (encode_records rs ++ (b ∷ q)) ≡ Err TooMany
   unfolding check_of
   too_many h b q =
       let z : length rs + 0 ≡ most_records = omega arith in

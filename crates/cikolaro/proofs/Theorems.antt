@@ -3,13 +3,14 @@
 use mathlib.Core.Path.{◌≡◌, refl, sym, ◌∙◌}
 use mathlib.Core.List.{List}
 use mathlib.Core.Option.{Option, none, some}
+use Rattle.std.specs.Prelude.{Result}
 use Prim.Native.Nat.{ℕ}
 use lib.ListN.{length}
 use Rattle.word.specs.Pick.{pick_t, pick_f}
 use Rattle.word.specs.Num.{Bytes}
 use Rattle.tree.specs.Batch.{Rec}
 use Rattle.tree.proofs.Cases.{by_bool}
-use Rattle.slots.specs.declared.Formatted.{Formatted}
+use Rattle.slots.specs.declared.FormatError.{FormatError}
 use Rattle.slots.specs.Code.{has_size, format_number, Formats}
 use Rattle.changes.specs.Records.{encode_records}
 use Rattle.lines.specs.Parses.{taken}
@@ -23,7 +24,7 @@ use Rattle.cikolaro.specs.Called.{Called}
 -- ---- Demand 1: "A refused call changes no byte of the store; the one exception is "no room", which keeps exactly the changes it
 -- counts as applied." Over all of the face.
 
-format_refused : (s : List ℕ) (n : ℕ) (r : Formatted) (t : List ℕ) → Formats s n r t → (format_number r ≡ 0 → ⊥) → t ≡ s
+format_refused : (s : List ℕ) (n : ℕ) (r : Result (Unit {0}) FormatError) (t : List ℕ) → Formats s n r t → (format_number r ≡ 0 → ⊥) → t ≡ s
 format_refused s n r t f z = by_bool (has_size (length s) n) (λ e. absurd (z (f.number ∙ pick_t _ _ e))) (λ e. f.bytes ∙ pick_f _ _ e)
 
 lines_refused : (s ms buffer text : List ℕ) (r : Batched) (t ns left : List ℕ) → Bytes s → RunsLines s ms buffer text r t ns left

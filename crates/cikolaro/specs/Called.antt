@@ -1,10 +1,9 @@
 -- The calls of the face that are lent a store, each with the store before it, its number and the store after it. Assumes nothing.
-use Rattle.std.specs.Prelude.{List, ℕ}
+use Rattle.std.specs.Prelude.{List, ℕ, Result}
 use Rattle.word.specs.Num.{Bytes}
-use Rattle.slots.specs.declared.Formatted.{Formatted}
+use Rattle.slots.specs.declared.FormatError.{FormatError}
 use Rattle.slots.specs.Code.{format_number, Formats}
-use Rattle.audit.specs.declared.Verdict.{Verdict}
-use Rattle.audit.specs.Contract.{audit_number}
+use Rattle.audit.specs.Contract.{Verdict, audit_number}
 use Rattle.batch.specs.declared.Batched.{Batched}
 use Rattle.batch.specs.Contract.{answer_number, Batches}
 use Rattle.iter.specs.declared.Cursor.{Cursor}
@@ -14,7 +13,7 @@ use Rattle.cikolaro.specs.Contract.{RunsLines}
 
 -- `audit`, `lookup`, `forward` and `backward` are lent the store as bytes to read (`&[u8]`), so that it can't change
 pub data Called : List ℕ → ℕ → List ℕ → Type 0 where
-  format : (s : List ℕ) (n : ℕ) (r : Formatted) (t : List ℕ) → Formats s n r t → Called s (format_number r) t
+  format : (s : List ℕ) (n : ℕ) (r : Result (Unit {0}) FormatError) (t : List ℕ) → Formats s n r t → Called s (format_number r) t
   audit : (s : List ℕ) (r : Verdict) → Called s (audit_number r) s
   batch : (s ms q : List ℕ) (r : Batched) (t ns : List ℕ) → Bytes s → Batches s ms q r t ns → Called s (answer_number r.answer) t
   lookup : (s k : List ℕ) → Called s (lookup_number (lookup_of s k)) s

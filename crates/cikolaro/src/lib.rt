@@ -15,13 +15,13 @@ ghost use Rattle.lines.specs.Parses.{Parses};
 ghost use Rattle.lines.specs.Written.{entry_line, refused_line, Writes};
 ghost use Rattle.cikolaro.specs.Contract.{RunsLines};
 
-use audit::Verdict;
-use batch::{Answer, Batched};
-use codec::{Reading, StrictReading, Written};
-use iter::{Cursor, LookedUp, Sought, Stepped};
-use lines::Parsed;
-use node::{Index, Node};
-use slots::Formatted;
+use audit::AuditError;
+use batch::{BatchError, Batched};
+use codec::{Reading, StrictReading, WriteError};
+use iter::{Cursor, Sought, Stepped, WalkError};
+use lines::ParseError;
+use node::{Index, Node, Value};
+use slots::FormatError;
 
 // ---- node bytes
 
@@ -54,7 +54,7 @@ pub fn key_strict(bytes: &[u8], index: Index) -> &[u8]
 }
 
 // A node in standard form to the front of the destination: 0 with its length, 16, 4, 5, 10.
-pub fn write(node: Node, dst: &mut [u8]) -> Written
+pub fn write(node: Node, dst: &mut [u8]) -> Result<usize, WriteError>
     ensures { (result ≡ written_of node dst.old) × (dst.new ≡ left_by (written_of node dst.old) node dst.old) }
 {
     codec::write(node, dst)
@@ -63,14 +63,14 @@ pub fn write(node: Node, dst: &mut [u8]) -> Written
 // ---- the store
 
 // "Formatting takes a count, ignores the old bytes": 0, 1.
-pub fn format(store: &mut [u8], count: u32) -> Formatted
+pub fn format(store: &mut [u8], count: u32) -> Result<(), FormatError>
     ensures { Formats store.old count result store.new }
 {
     slots::format(store, count)
 }
 
 // "Audit: 1, 2, 8."
-pub fn audit(store: &[u8], marks: &mut [u64]) -> Verdict
+pub fn audit(store: &[u8], marks: &mut [u64]) -> Result<usize, AuditError>
     ensures { Audits store.now marks.old result marks.new }
 {
     audit::audit(store, marks)
@@ -85,7 +85,7 @@ pub fn batch(store: &mut [u8], marks: &mut [u64], records: &[u8]) -> Batched
 
 // ---- "Lookup and cursor: 1, 4, 8."
 
-pub fn lookup(store: &[u8], key: &[u8]) -> LookedUp
+pub fn lookup(store: &[u8], key: &[u8]) -> Result<Option<Value>, WalkError>
     ensures { result ≡ lookup_of store.now key.now }
 {
     iter::lookup(store, key)
@@ -112,7 +112,7 @@ pub fn backward(store: &[u8], cursor: Cursor) -> Stepped
 // ---- house lines
 
 // House lines to records: 0, 15.
-pub fn parse(text: &[u8], records: &mut [u8]) -> Parsed
+pub fn parse(text: &[u8], records: &mut [u8]) -> Result<usize, ParseError>
     ensures { Parses text.now records.old result records.new }
 {
     lines::parse(text, records)
@@ -122,26 +122,24 @@ pub fn parse(text: &[u8], records: &mut [u8]) -> Parsed
 pub fn run_lines(store: &mut [u8], marks: &mut [u64], records: &mut [u8], text: &[u8]) -> Batched
     ensures { RunsLines store.old marks.old records.old text.now result store.new marks.new records.new }
 {
-    let parsed = lines::parse(text, records);
-    if parsed.number() != 0 {
-        return Batched {
-            answer: Answer::BadText,
+    match lines::parse(text, records) {
+        Ok(len) => batch::batch(store, marks, &records[0..len]),
+        Err(_) => Batched {
+            answer: Err(BatchError::BadText),
             applied: 0,
-        };
+        },
     }
-    let len = parsed.length();
-    batch::batch(store, marks, &records[0..len])
 }
 
-// "writes entries, key TAB value": the line to the front of dst, where it fits; its length, or 0.
-pub fn write_entry(key: &[u8], value: u64, dst: &mut [u8]) -> usize
+// "writes entries, key TAB value": the line to the front of dst, where it fits: its length.
+pub fn write_entry(key: &[u8], value: u64, dst: &mut [u8]) -> Option<usize>
     ensures { Writes (entry_line key.now value) dst.old result dst.new }
 {
     lines::write_entry(key, value, dst)
 }
 
 // "A refusal writes one line: `refused` TAB number TAB applied": as for an entry.
-pub fn write_refused(number: u32, applied: u64, dst: &mut [u8]) -> usize
+pub fn write_refused(number: u32, applied: u64, dst: &mut [u8]) -> Option<usize>
     ensures { Writes (refused_line number applied) dst.old result dst.new }
 {
     lines::write_refused(number, applied, dst)

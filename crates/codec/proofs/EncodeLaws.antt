@@ -16,8 +16,9 @@ use Rattle.word.proofs.NumLaws.{length_le}
 use Rattle.word.proofs.PartLaws.{part_seam}
 use Rattle.tree.specs.Map.{Sep}
 use Rattle.codec.specs.declared.Ending.TheVariants.{NoByteLeft}
+use Rattle.std.specs.Prelude.{Result, Ok}
 use Rattle.codec.specs.declared.Head.{Head}
-use Rattle.codec.specs.declared.Head.TheVariants.{Separator}
+use Rattle.codec.specs.declared.Ending.{Ending}
 use Rattle.node.specs.Chain.{Step, longest_key, Fit, FitAll}
 use Rattle.codec.specs.Codec.{sized, sep_length, rest_length, encode_sep, encode_rest, encode, is_accepted, Scan, before, key_at, size_at, head_at, scan_from, settle, scan, step_of}
 use Rattle.codec.specs.Layout.{all_plain}
@@ -69,14 +70,14 @@ sep_bound n e h = omega (arith, sep_most n)
 
 -- ---- what was written is found
 
-pub record HeadIs (s : List ℕ) (at : ℕ) (e : Sep ℕ) (h : Head) : Type 0 where
+pub record HeadIs (s : List ℕ) (at : ℕ) (e : Sep ℕ) (d : Result Head Ending) : Type 0 where
   pub start : ℕ
-  pub is : h ≡ Separator (record { 0 = e.val }) start (length e.key) true
+  pub is : d ≡ Ok (record { value = record { 0 = e.val }; start = start; len = length e.key; plain = true })
   pub key : part s start (length e.key) ≡ e.key
   pub next : start + length e.key ≡ at + length (encode_sep e)
 
 module _ (s : List ℕ) (at : ℕ) (e : Sep ℕ) (f : Fit e) where
-  key_is : (start : ℕ) → start + length e.key ≤ length s → key_at s e.val start (length e.key) true ≡ Separator (record { 0 = e.val }) start (length e.key) true
+  key_is : (start : ℕ) → start + length e.key ≤ length s → key_at s e.val start (length e.key) true ≡ Ok (record { value = record { 0 = e.val }; start = start; len = length e.key; plain = true })
   unfolding key_at
   key_is start w =
       let t = f.there in

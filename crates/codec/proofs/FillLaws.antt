@@ -14,8 +14,8 @@ use Rattle.word.specs.At.{fits_in, read_at}
 use Rattle.node.specs.declared.Child.{Child}
 use Rattle.codec.specs.declared.Ending.{Ending}
 use Rattle.codec.specs.declared.Ending.TheVariants.{NoByteLeft, BytesIgnored, ShortChild}
+use Rattle.std.specs.Prelude.{Result, Ok, Err}
 use Rattle.codec.specs.declared.Head.{Head}
-use Rattle.codec.specs.declared.Head.TheVariants.{Separator, Ended}
 use Rattle.codec.specs.declared.Places.{Places}
 use Rattle.node.specs.declared.Value.{Value}
 use Rattle.codec.specs.Codec.{Spot, Scan, stop, before, is_accepted, head_at, follow, scan_from, settle, scan}
@@ -124,11 +124,11 @@ module _ (s : List ℕ) where
       behind_lem : (at + 8 ≡ length s → ⊥) → scan_from s (8 - i) at ≡ follow s (scan_from s (8 - (i + 1))) v (head_at s (at + 8))
       behind_lem e = from_index ∙ pick_t _ _ (sym f ∙ not-false _ t) ∙ pick_f _ _ (ne_eqb _ _ e) ∙ rw g
 
-      pub read_ended : {d : Head} {e : Ending} {r : Places} → (at + 8 ≡ length s → ⊥) → d ≡ head_at s (at + 8) → d ≡ Ended e → r ≡ ended_with (with_child p i (child_of v)) e i → r ≡ places_of s
+      pub read_ended : {d : Result Head Ending} {e : Ending} {r : Places} → (at + 8 ≡ length s → ⊥) → d ≡ head_at s (at + 8) → d ≡ Err e → r ≡ ended_with (with_child p i (child_of v)) e i → r ≡ places_of s
       read_ended {e = e} n a k q = q ∙ sym (l ∙ ap (filled p i) (behind_lem n ∙ ap (follow s (scan_from s (8 - (i + 1))) v) (sym a ∙ k)) ∙ filled_stop p i e v)
 
-      pub read_turn : {d : Head} {w : Value} {start len : ℕ} {plain y : Bool} → (at + 8 ≡ length s → ⊥) → d ≡ head_at s (at + 8) → d ≡ Separator w start len plain → y ≡ (p.standard && plain)
-          → Left (with_spot p i (child_of v) w start len y) (start + len) (i + 1)
+      pub read_turn : {d : Result Head Ending} {h : Head} {y : Bool} → (at + 8 ≡ length s → ⊥) → d ≡ head_at s (at + 8) → d ≡ Ok h → y ≡ (p.standard && h.plain)
+          → Left (with_spot p i (child_of v) h.value h.start h.len y) (h.start + h.len) (i + 1)
       read_turn n a k q = l ∙ ap (filled p i) (behind_lem n ∙ ap (follow s (scan_from s (8 - (i + 1))) v) (sym a ∙ k)) ∙ filled_before p i v _ _ ∙ rw q
 
   module _ (p : Places) (at i : ℕ) (l : Left p at i) (h : 8 ≤ i) (k : i ≤ 8) where

@@ -10,7 +10,8 @@ use lib.ListN.{length, get_or, drop, length-append}
 use native.Mathlib.Omega.{arith}
 use borrow.Author.Tests.{le-leb, lt-leb}
 use Rattle.word.specs.Key.{Key, cmp, Lt, order_of}
-use Rattle.word.specs.declared.Order.{Order}
+use Rattle.std.specs.Ordering.{is_eq}
+use Rattle.std.specs.declared.cmp.Ordering.{Ordering as Order}
 use Rattle.word.specs.Pick.{pick, pick_t, pick_f}
 use Rattle.word.specs.Part.{part}
 use Rattle.word.proofs.KeyOrder.{cmp_swap, lt_trans, gt_lt, lt_gt}
@@ -23,7 +24,7 @@ use Rattle.codec.specs.declared.position.Found.{Found}
 use Rattle.node.specs.Chain.{Step}
 use Rattle.codec.specs.Codec.{Spot, Scan, scan, step_of}
 use Rattle.codec.specs.Layout.{layout, places_of}
-use Rattle.codec.specs.Position.{leading, is_next, found_in, found_past, found, goes_on, is_equal, order_at, position_from, position_of}
+use Rattle.codec.specs.Position.{leading, is_next, found_in, found_past, found, goes_on, order_at, position_from, position_of}
 use Rattle.node.proofs.ChainLaws.{get_or_padded, get_or_mapped}
 use Rattle.codec.proofs.ScanLaws.{scan_lies}
 
@@ -158,7 +159,7 @@ module _ (k : Key) where
 
   -- the search goes on behind a smaller key, and past an equal one
   pub found_turn : (past : Bool) (x : Step) (r : List Step)
-      → let o : Order = order_of (cmp k x.0.key) in found_by past k (x ∷ r) ≡ pick (goes_on past o) (behind 1 (found_by past k r)) (found 0 (is_equal o))
+      → let o : Order = order_of (cmp k x.0.key) in found_by past k (x ∷ r) ≡ pick (goes_on past o) (behind 1 (found_by past k r)) (found 0 (is_eq o))
   unfolding found_by found_in found_past pick
   found_turn true x r =
       let n : ℕ = leading (not_above k) r in
@@ -193,7 +194,7 @@ module _ (k : Key) where
         let m : length (p ++ (x ∷ [])) ≡ length p + 1 = simp length-append in
         let next : position_from (layout c) s k past (length p + 1) n ≡ behind (length p + 1) (found_by past k r) = rw m at ih in
         pick_f _ _ (lt-leb (layout c).count (length p) (omega arith))
-        ∙ rw (o, next, found_turn past (step_of s x) r) (spread (goes_on past (order_of (cmp k (part s x.0.start x.0.len)))) (length p) (is_equal (order_of (cmp k (part s x.0.start x.0.len)))) (found_by past k r))
+        ∙ rw (o, next, found_turn past (step_of s x) r) (spread (goes_on past (order_of (cmp k (part s x.0.start x.0.len)))) (length p) (is_eq (order_of (cmp k (part s x.0.start x.0.len)))) (found_by past k r))
 
 -- "`position` compares separators from index 0": on the places of node bytes it is the search among what the bytes hold
 pub position_places : (s : List ℕ) (k : Key) (past : Bool) → position_of (places_of s) s k past ≡ found_by past k (map (step_of s) (scan s).rest)

@@ -14,8 +14,8 @@ use Rattle.word.proofs.PartLaws.{over_seam, length_part}
 use Rattle.word.proofs.AtLaws.{copy_at_in}
 use Rattle.codec.specs.declared.Ending.{Ending}
 use Rattle.codec.specs.declared.Ending.TheVariants.{ZeroValue, ShortChild, ShortHead, ShortSize, ShortKey, LongKey}
+use Rattle.std.specs.Prelude.{Result, Ok, Err}
 use Rattle.codec.specs.declared.Head.{Head}
-use Rattle.codec.specs.declared.Head.TheVariants.{Separator, Ended}
 use Rattle.codec.specs.declared.Places.{Places}
 use Rattle.codec.specs.declared.Reading.{Reading}
 use Rattle.node.specs.declared.Node.{Node}
@@ -29,38 +29,38 @@ use Rattle.node.proofs.ChainLaws.{get_or_padded, get_or_mapped, Short, blocks_ap
 -- ---- a separator's head
 
 module _ (s : List ℕ) (v start len : ℕ) (plain : Bool) {b : Bool} (f : b ≡ fits_in (length s) start len) where
-  pub key_1 : not b ≡ true → Ended ShortKey ≡ key_at s v start len plain
+  pub key_1 : not b ≡ true → Err ShortKey ≡ key_at s v start len plain
   unfolding key_at
   key_1 t = sym (pick_f _ _ (sym f ∙ not-true _ t))
 
-  pub key_2 : not b ≡ false → v ≡ 0 → Ended ZeroValue ≡ key_at s v start len plain
+  pub key_2 : not b ≡ false → v ≡ 0 → Err ZeroValue ≡ key_at s v start len plain
   unfolding key_at
   key_2 t z = sym (pick_t _ _ (sym f ∙ not-false _ t) ∙ pick_t _ _ (eq-eqb v 0 z))
 
-  pub key_3 : not b ≡ false → (v ≡ 0 → ⊥) → 288 < len → Ended LongKey ≡ key_at s v start len plain
+  pub key_3 : not b ≡ false → (v ≡ 0 → ⊥) → 288 < len → Err LongKey ≡ key_at s v start len plain
   unfolding key_at
   key_3 t z l = sym (pick_t _ _ (sym f ∙ not-false _ t) ∙ pick_f _ _ (ne_eqb v 0 z) ∙ pick_t _ _ (lt-ltb longest_key len l))
 
-  pub key_4 : not b ≡ false → (v ≡ 0 → ⊥) → len ≤ 288 → Separator (value_of v) start len plain ≡ key_at s v start len plain
+  pub key_4 : not b ≡ false → (v ≡ 0 → ⊥) → len ≤ 288 → Ok (record { value = value_of v; start = start; len = len; plain = plain }) ≡ key_at s v start len plain
   unfolding key_at
   key_4 t z l = sym (pick_t _ _ (sym f ∙ not-false _ t) ∙ pick_f _ _ (ne_eqb v 0 z) ∙ pick_f _ _ (le-ltb longest_key len l))
 
 module _ (s : List ℕ) (at : ℕ) {b : Bool} (f : b ≡ fits_in (length s) at 9) where
-  pub head_1 : not b ≡ true → Ended ShortHead ≡ head_at s at
+  pub head_1 : not b ≡ true → Err ShortHead ≡ head_at s at
   unfolding head_at
   head_1 t = sym (pick_f _ _ (sym f ∙ not-true _ t))
 
   module _ {v : ℕ} (t : not b ≡ false) (g : v ≡ read_at 8 s at) where
-    pub head_2 : {h : Head} → get_or s (at + 8) 0 < 255 → h ≡ key_at s v (at + 9) (get_or s (at + 8) 0) true → h ≡ head_at s at
+    pub head_2 : {h : Result Head Ending} → get_or s (at + 8) 0 < 255 → h ≡ key_at s v (at + 9) (get_or s (at + 8) 0) true → h ≡ head_at s at
     unfolding head_at size_at
     head_2 l q = q ∙ rw g (sym (pick_t _ _ (sym f ∙ not-false _ t) ∙ pick_t _ _ (lt-ltb _ 255 l)))
 
     module _ {c : Bool} (l : 255 ≤ get_or s (at + 8) 0) (k : c ≡ fits_in (length s) (at + 9) 4) where
-      pub head_3 : not c ≡ true → Ended ShortSize ≡ head_at s at
+      pub head_3 : not c ≡ true → Err ShortSize ≡ head_at s at
       unfolding head_at size_at
       head_3 u = sym (pick_t _ _ (sym f ∙ not-false _ t) ∙ pick_f _ _ (le-ltb _ 255 l) ∙ pick_f _ _ (sym k ∙ not-true _ u))
 
-      pub head_4 : {n : ℕ} {p : Bool} {h : Head} → not c ≡ false → n ≡ read_at 4 s (at + 9) → p ≡ leb 255 n → h ≡ key_at s v (at + 13) n p → h ≡ head_at s at
+      pub head_4 : {n : ℕ} {p : Bool} {h : Result Head Ending} → not c ≡ false → n ≡ read_at 4 s (at + 9) → p ≡ leb 255 n → h ≡ key_at s v (at + 13) n p → h ≡ head_at s at
       unfolding head_at size_at
       head_4 u m e q = q ∙ rw (e, m, g) (sym (pick_t _ _ (sym f ∙ not-false _ t) ∙ pick_f _ _ (le-ltb _ 255 l) ∙ pick_t _ _ (sym k ∙ not-false _ u)))
 
@@ -72,17 +72,15 @@ reads_none e = ap (λ (x : Node). record { ending = ShortChild; node = x }) e
 
 -- ---- ended
 
-pub ended_1 : (p : Places) (e : Ending) (n : ℕ) {b : Bool} → b ≡ is_accepted e → not b ≡ true
+pub ended_1 : (p : Places) (e : Ending) (n : ℕ) → is_accepted e ≡ false
     → ◌≡◌ {A = Places} (record { ending = e; standard = false; count = 0; children = replicate 9 (child_of 0); values = replicate 8 (value_of 0); starts = replicate 8 0; lens = replicate 8 0 }) (ended_with p e n)
 unfolding ended_with layout padded
-ended_1 p e n f t =
-    let a : is_accepted e ≡ false = sym f ∙ not-true _ t in
-    sym (pick_f _ _ a ∙ rw (refused_not_whole e a))
+ended_1 p e n a = sym (pick_f _ _ a ∙ rw (refused_not_whole e a))
 
-pub ended_2 : (p : Places) (e : Ending) (n : ℕ) {b w y : Bool} → b ≡ is_accepted e → not b ≡ false → w ≡ is_no_byte_left e → y ≡ (p.standard && w)
+pub ended_2 : (p : Places) (e : Ending) (n : ℕ) {y : Bool} → is_accepted e ≡ true → y ≡ (p.standard && is_no_byte_left e)
     → ◌≡◌ {A = Places} (record { ending = e; standard = y; count = n; children = p.children; values = p.values; starts = p.starts; lens = p.lens }) (ended_with p e n)
 unfolding ended_with
-ended_2 p e n f t g q = rw (q, g) (sym (pick_t _ _ (sym f ∙ not-false _ t)))
+ended_2 p e n a q = rw q (sym (pick_t _ _ a))
 
 -- ---- a place of the scan, in the arrays
 

@@ -16,9 +16,8 @@ use Rattle.word.proofs.PartLaws.{length_part}
 use Rattle.tree.specs.Map.{Sep}
 use Rattle.codec.specs.declared.Ending.{Ending}
 use Rattle.codec.specs.declared.Ending.TheVariants.{NoByteLeft, BytesIgnored, ZeroValue, ShortChild, ShortHead, ShortSize, ShortKey, LongKey}
-use Rattle.node.specs.declared.Value.{Value}
+use Rattle.std.specs.Prelude.{Result, Ok, Err}
 use Rattle.codec.specs.declared.Head.{Head}
-use Rattle.codec.specs.declared.Head.TheVariants.{Separator, Ended}
 use Rattle.node.specs.Chain.{longest_key}
 use Rattle.codec.specs.Codec.{sized, encode_sep, encode_rest, encode, is_no_byte_left, is_accepted, Spot, Scan, stop, key_at, size_at, head_at, follow, scan_from, settle, scan, step_of}
 use Rattle.codec.specs.Layout.{all_plain}
@@ -67,9 +66,9 @@ pub record Lies (s : List ℕ) (k : ℕ) (r : Scan) : Type 0 where
   pub spots : AllLie s r.rest
 
 module _ (s : List ℕ) where
-  abbrev HeadLies : Head → Type 0
-  HeadLies (Separator v start len plain) = SpotLies s (record { value = v.0; start = start; len = len; plain = plain })
-  HeadLies (Ended e) = Unit {0}
+  abbrev HeadLies : Result Head Ending → Type 0
+  HeadLies (Ok h) = SpotLies s (record { value = h.value.0; start = h.start; len = h.len; plain = h.plain })
+  HeadLies (Err e) = Unit {0}
 
   key_lies : (v start len : ℕ) (plain : Bool) → HeadLies (key_at s v start len plain)
   unfolding key_at
@@ -89,13 +88,13 @@ module _ (s : List ℕ) where
       (λ w. tt)
 
   -- the end of a key that was found
-  pub head_within : (at : ℕ) {h : Head} {v : Value} {start len : ℕ} {plain : Bool} → h ≡ head_at s at → h ≡ Separator v start len plain → start + len ≤ length s
-  head_within at e q = let l : HeadLies (Separator _ _ _ _) = subst HeadLies (sym e ∙ q) (head_lies at) in l.within
+  pub head_within : (at : ℕ) {d : Result Head Ending} {h : Head} → d ≡ head_at s at → d ≡ Ok h → h.start + h.len ≤ length s
+  head_within at e q = let l : HeadLies (Ok _) = subst HeadLies (sym e ∙ q) (head_lies at) in l.within
 
   -- what stands where a separator may never ends the node with no byte left
-  abbrev HeadGoes : Head → Type 0
-  HeadGoes (Separator v start len plain) = Unit {0}
-  HeadGoes (Ended e) = is_no_byte_left e ≡ false
+  abbrev HeadGoes : Result Head Ending → Type 0
+  HeadGoes (Ok h) = Unit {0}
+  HeadGoes (Err e) = is_no_byte_left e ≡ false
 
   key_goes : (v start len : ℕ) (plain : Bool) → HeadGoes (key_at s v start len plain)
   unfolding key_at
@@ -105,8 +104,8 @@ module _ (s : List ℕ) where
       by_test HeadGoes (ltb longest_key len) (λ l. refl) (λ l. tt))
       (λ w. refl)
 
-  pub head_ends : (at : ℕ) {h : Head} {e : Ending} → h ≡ head_at s at → h ≡ Ended e → is_no_byte_left e ≡ false
-  head_ends at {h} {e} p q = let g : HeadGoes (Ended e) = subst HeadGoes (sym p ∙ q) go in g
+  pub head_ends : (at : ℕ) {h : Result Head Ending} {e : Ending} → h ≡ head_at s at → h ≡ Err e → is_no_byte_left e ≡ false
+  head_ends at {h} {e} p q = let g : HeadGoes (Err e) = subst HeadGoes (sym p ∙ q) go in g
     where
       go : HeadGoes (head_at s at)
       go = unfold head_at size_at in
@@ -118,9 +117,9 @@ module _ (s : List ℕ) where
   stop_lies : (k : ℕ) (e : Ending) (c : ℕ) → Lies s k (stop e c)
   stop_lies k e c = record { most = omega arith; spots = tt }
 
-  follow_lies : (k c : ℕ) (next : ℕ → Scan) → ((i : ℕ) → Lies s k (next i)) → (h : Head) → HeadLies h → Lies s (suc k) (follow s next c h)
-  follow_lies k c next ih (Separator v start len plain) h = let r = ih (start + len) in record { most = omega (arith, r.most); spots = (h, r.spots) }
-  follow_lies k c next ih (Ended e) h = stop_lies (suc k) e c
+  follow_lies : (k c : ℕ) (next : ℕ → Scan) → ((i : ℕ) → Lies s k (next i)) → (d : Result Head Ending) → HeadLies d → Lies s (suc k) (follow s next c d)
+  follow_lies k c next ih (Ok h) l = let r = ih (h.start + h.len) in record { most = omega (arith, r.most); spots = (l, r.spots) }
+  follow_lies k c next ih (Err e) l = stop_lies (suc k) e c
 
   from_lies : (k at : ℕ) → Lies s k (scan_from s k at)
   unfolding scan_from
@@ -161,9 +160,9 @@ module _ (s : List ℕ) (b : Bytes s) where
     small : x.value < 2 ^ 64
     same : x.plain ≡ true → drop at s ≡ encode_sep (sep_of x) ++ drop (x.start + x.len) s
 
-  abbrev HeadSound : ℕ → Head → Type 0
-  HeadSound at (Separator v start len plain) = SepSound at (record { value = v.0; start = start; len = len; plain = plain })
-  HeadSound at (Ended e) = is_no_byte_left e ≡ false
+  abbrev HeadSound : ℕ → Result Head Ending → Type 0
+  HeadSound at (Ok h) = SepSound at (record { value = h.value.0; start = h.start; len = h.len; plain = h.plain })
+  HeadSound at (Err e) = is_no_byte_left e ≡ false
 
   sized_short : (v at : ℕ) → at + 9 ≤ length s → v ≡ read_at 8 s at → get_or s (at + 8) 0 < 255 → (n : ℕ) → n ≡ get_or s (at + 8) 0 → at + 9 + n ≤ length s
       → drop at s ≡ encode_sep (record { key = part s (at + 9) n; val = v }) ++ drop (at + 9 + n) s
@@ -216,18 +215,18 @@ module _ (s : List ℕ) (b : Bytes s) where
       (λ w. refl)
 
   -- a separator, and what follows is sound
-  follow_sound : (at c : ℕ) → at + 8 ≤ length s → c ≡ read_at 8 s at → (next : ℕ → Scan) → ((i : ℕ) → Sound s i (next i)) → (h : Head) → HeadSound (at + 8) h → Sound s at (follow s next c h)
+  follow_sound : (at c : ℕ) → at + 8 ≤ length s → c ≡ read_at 8 s at → (next : ℕ → Scan) → ((i : ℕ) → Sound s i (next i)) → (d : Result Head Ending) → HeadSound (at + 8) d → Sound s at (follow s next c d)
   unfolding encode encode_rest
-  follow_sound at c w e next ih (Separator v start len plain) h =
-      let r = ih (start + len) in
-      let x : Spot = record { value = v.0; start = start; len = len; plain = plain } in
+  follow_sound at c w e next ih (Ok h) g =
+      let r = ih (h.start + h.len) in
+      let x : Spot = record { value = h.value.0; start = h.start; len = h.len; plain = h.plain } in
       record {
         first = rw e (read_at_small 8 s at b);
-        small = (h.small, r.first, r.small);
-        same = λ p q. drop_read 8 s at w b ∙ rw (← e) (ap (λ (t : List ℕ). le 8 c ++ t) (h.same (and_left plain (all_plain (next (start + len)).rest) p)
-            ∙ ap (λ (t : List ℕ). encode_sep (sep_of x) ++ t) (r.same (and_right plain (all_plain (next (start + len)).rest) p) q)));
+        small = (g.small, r.first, r.small);
+        same = λ p q. drop_read 8 s at w b ∙ rw (← e) (ap (λ (t : List ℕ). le 8 c ++ t) (g.same (and_left h.plain (all_plain (next (h.start + h.len)).rest) p)
+            ∙ ap (λ (t : List ℕ). encode_sep (sep_of x) ++ t) (r.same (and_right h.plain (all_plain (next (h.start + h.len)).rest) p) q)));
       }
-  follow_sound at c w e next ih (Ended m) h = record {
+  follow_sound at c w e next ih (Err m) g = record {
     first = rw e (read_at_small 8 s at b);
     small = tt;
     same = λ p q. cc;

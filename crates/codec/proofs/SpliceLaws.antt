@@ -8,7 +8,8 @@ use lib.ListN.{length, take, drop, get_or, replicate, length-append, length-map,
 use lib.Seq.{take_at, drop_at, take-append-le, take-take, length-take-le}
 use lib.Dec.{leb, ltb, eqb}
 use native.Mathlib.Omega.{arith}
-use borrow.Author.Tests.{ltb-true, leb-true, lt-ltb, le-ltb, not-true, not-false}
+use borrow.Author.Tests.{ltb-true, leb-true, lt-ltb, le-ltb, ne_eqb, not-true, not-false}
+use Rattle.std.specs.Prelude.{Option, Some, None, Result, Ok, Err}
 use Rattle.word.specs.Pick.{pick_t, pick_f, by_test}
 use Rattle.word.specs.Part.{part, over}
 use Rattle.word.specs.Num.{le}
@@ -19,12 +20,12 @@ use Rattle.word.proofs.AtLaws.{fits_in_lem, fits_true, write_at_in}
 use Rattle.word.proofs.MoveLaws.{move_at_in, over_ahead}
 use Rattle.tree.specs.Map.{Sep}
 use Rattle.codec.specs.declared.Head.{Head}
-use Rattle.codec.specs.declared.Head.TheVariants.{Separator, Ended}
+use Rattle.codec.specs.declared.Ending.{Ending}
 use Rattle.node.specs.Chain.{Step, longest_key, padded}
 use Rattle.codec.specs.Codec.{sized, sep_length, rest_length, encode_sep, encode_rest, encode, is_accepted, is_no_byte_left, Spot, Scan, key_at, size_at, head_at, follow, scan_from, settle, scan, step_of}
 use Rattle.codec.specs.Layout.{all_plain, layout, places_of, place_in, key_place}
 use Rattle.codec.specs.Mirror.{width_all, width_first, put_sep}
-use Rattle.codec.specs.Splice.{spliced, splice_at, splice_width, Spliced, splice_in}
+use Rattle.codec.specs.Splice.{spliced, splice_at, splice_width, Spliced, new_length, splice_in}
 use Rattle.codec.proofs.EncodeLaws.{length_sep, rest_append, length_encode, sep_short, sep_long}
 use Rattle.codec.proofs.ScanLaws.{and_left, and_right, AllLie, scan_lies}
 use Rattle.codec.proofs.ReadLaws.{starts_at, lens_at}
@@ -101,9 +102,9 @@ splice_width_lem s i h =
 -- ---- the place, by the key before it
 
 -- where a separator at a place ends, that is written as standard form has it
-abbrev HeadEnds : ℕ → Head → Type 0
-HeadEnds at (Separator v start len plain) = plain ≡ true → start + len ≡ at + sep_length len
-HeadEnds at (Ended e) = Unit {0}
+abbrev HeadEnds : ℕ → Result Head Ending → Type 0
+HeadEnds at (Ok h) = h.plain ≡ true → h.start + h.len ≡ at + sep_length h.len
+HeadEnds at (Err e) = Unit {0}
 
 -- the same of each that was read, the first behind the child at a place
 abbrev Ends : ℕ → List (Spot × ℕ) → Type 0
@@ -134,12 +135,12 @@ module _ (s : List ℕ) where
       (λ d. tt))
       (λ w. tt)
 
-  follow_ends : (at c : ℕ) (next : ℕ → Scan) → ((i : ℕ) → ScanEnds i (next i)) → (h : Head) → HeadEnds (at + 8) h → ScanEnds at (follow s next c h)
-  follow_ends at c next ih (Separator v start len plain) h p = (
-    h (and_left plain (all_plain (next (start + len)).rest) p),
-    ih (start + len) (and_right plain (all_plain (next (start + len)).rest) p),
+  follow_ends : (at c : ℕ) (next : ℕ → Scan) → ((i : ℕ) → ScanEnds i (next i)) → (d : Result Head Ending) → HeadEnds (at + 8) d → ScanEnds at (follow s next c d)
+  follow_ends at c next ih (Ok h) g p = (
+    g (and_left h.plain (all_plain (next (h.start + h.len)).rest) p),
+    ih (h.start + h.len) (and_right h.plain (all_plain (next (h.start + h.len)).rest) p),
   )
-  follow_ends at c next ih (Ended e) h p = tt
+  follow_ends at c next ih (Err e) g p = tt
 
   from_ends : (k at : ℕ) → ScanEnds at (scan_from s k at)
   unfolding scan_from
@@ -184,32 +185,34 @@ over_front d p z h =
     rw l (sym (append_assoc (take p d) z (drop (p + length z) d)))
 
 module _ (d : List ℕ) (n p : ℕ) (e : Sep ℕ) (b : ℕ) where
-  abbrev Splices : ℕ → List ℕ → Type 0
-  Splices r t = (r ≡ (splice_in d n p e b).len) × (t ≡ (splice_in d n p e b).bytes)
+  abbrev Splices : Option ℕ → List ℕ → Type 0
+  Splices r t = (r ≡ new_length (splice_in d n p e b)) × (t ≡ (splice_in d n p e b).bytes)
 
-  splices : {g : Spliced} → splice_in d n p e b ≡ g → {r : ℕ} {t : List ℕ} → r ≡ g.len → t ≡ g.bytes → Splices r t
-  splices q x y = (x ∙ sym (ap (λ (g : Spliced). g.len) q), y ∙ sym (ap (λ (g : Spliced). g.bytes) q))
+  splices : {g : Spliced} → splice_in d n p e b ≡ g → {r : Option ℕ} {t : List ℕ} → r ≡ new_length g → t ≡ g.bytes → Splices r t
+  splices q x y = (x ∙ sym (ap new_length q), y ∙ sym (ap (λ (g : Spliced). g.bytes) q))
 
-  pub splice_1 : 288 < length e.key → Splices 0 d
+  left_alone : splice_in d n p e b ≡ record { len = 0; bytes = d } → Splices None d
+  left_alone q = splices q (sym (pick_t _ _ refl)) refl
+
+  pub splice_1 : 288 < length e.key → Splices None d
   unfolding splice_in
-  splice_1 h = splices (pick_t _ _ (lt-ltb longest_key (length e.key) h)) refl refl
+  splice_1 h = left_alone (pick_t _ _ (lt-ltb longest_key (length e.key) h))
 
   module _ {w : ℕ} {f : Bool} (short : length e.key ≤ 288) (wide : w ≡ sep_length (length e.key)) (fits : f ≡ fits_in (length d) n (w + 8)) where
     tested : f ≡ fits_in (length d) n (splice_width e)
     tested = rw wide at fits
 
-    pub splice_2 : not f ≡ true → Splices 0 d
+    pub splice_2 : not f ≡ true → Splices None d
     unfolding splice_in
-    splice_2 h = splices (pick_f _ _ (le-ltb longest_key (length e.key) short) ∙ pick_f _ _ (sym tested ∙ not-true f h)) refl refl
+    splice_2 h = left_alone (pick_f _ _ (le-ltb longest_key (length e.key) short) ∙ pick_f _ _ (sym tested ∙ not-true f h))
 
     module _ (room : not f ≡ false) where
       pub splice_room : n + (w + 8) ≤ length d
       splice_room = fits_true (length d) n (w + 8) (sym fits ∙ not-false f room)
 
-      pub splice_3 : n < p → Splices 0 d
+      pub splice_3 : n < p → Splices None d
       unfolding splice_in
-      splice_3 h =
-          splices (pick_f _ _ (le-ltb longest_key (length e.key) short) ∙ pick_t _ _ (sym tested ∙ not-false f room) ∙ pick_t _ _ (lt-ltb n p h)) refl refl
+      splice_3 h = left_alone (pick_f _ _ (le-ltb longest_key (length e.key) short) ∙ pick_t _ _ (sym tested ∙ not-false f room) ∙ pick_t _ _ (lt-ltb n p h))
 
       module _ (within : p ≤ n) where
         put_is : (t : List ℕ) → length t ≡ length d → put_sep t p e ≡ over t p (encode_sep e)
@@ -243,8 +246,8 @@ module _ (d : List ℕ) (n p : ℕ) (e : Sep ℕ) (b : ℕ) where
             let ahead : over (over d (p + (w + 8)) y) p (x ++ le 8 b) ≡ over d p ((x ++ le 8 b) ++ y) = rw (← lz) (over_ahead d p (x ++ le 8 b) y (omega arith)) in
             m3 ∙ ap (λ (t : List ℕ). over t p (x ++ le 8 b)) m1 ∙ ahead ∙ over_front d p ((x ++ le 8 b) ++ y) (omega arith) ∙ between
 
-        pub splice_4 : {d1 d2 d3 : List ℕ} → d1 ≡ move_at d p (n - p) (w + 8) → d2 ≡ put_sep d1 p e → d3 ≡ write_at 8 d2 (p + w) b → Splices (n + (w + 8)) d3
+        pub splice_4 : {d1 d2 d3 : List ℕ} → d1 ≡ move_at d p (n - p) (w + 8) → d2 ≡ put_sep d1 p e → d3 ≡ write_at 8 d2 (p + w) b → Splices (Some (n + (w + 8))) d3
         unfolding splice_in
         splice_4 i j k =
             splices (pick_f _ _ (le-ltb longest_key (length e.key) short) ∙ pick_t _ _ (sym tested ∙ not-false f room) ∙ pick_f _ _ (le-ltb n p within))
-            (rw wide) (spliced_is i j k)
+            (rw wide (sym (pick_f _ _ (ne_eqb (n + splice_width e) 0 (λ z. omega arith))))) (spliced_is i j k)

@@ -1,20 +1,19 @@
 -- The strict reading: each way through the code. Assumes nothing.
 use mathlib.Core.Path.{◌≡◌, refl, sym, ap, ◌∙◌}
 use mathlib.Core.List.{List, []}
-use mathlib.Core.Bool.{Bool, true, false, ◌&&◌, not}
+use mathlib.Core.Bool.{Bool, true, false, not}
 use Prim.Native.Nat.{ℕ, suc, ◌+◌, ◌-◌, ◌≤◌, ◌<◌}
 use lib.ListN.{length, get_or, take, drop}
-use lib.Dec.{leb, eqb}
+use lib.Dec.{leb, ltb, eqb}
 use native.Mathlib.Omega.{arith}
-use borrow.Author.Tests.{eq-eqb, ne_eqb, le-leb, lt-leb, not-true, not-false}
+use borrow.Author.Tests.{eq-eqb, ne_eqb, ltb-true, ltb-false, le-leb, lt-leb, not-true, not-false}
 use Rattle.word.specs.Pick.{pick, pick_t, pick_f}
 use Rattle.word.specs.Part.{part}
 use Rattle.word.specs.At.{fits_in, read_at}
-use Rattle.node.specs.declared.Value.{Value}
 use Rattle.codec.specs.declared.Ending.{Ending}
-use Rattle.codec.specs.declared.Ending.TheVariants.{NoByteLeft, BytesIgnored, ShortChild}
+use Rattle.codec.specs.declared.Ending.TheVariants.{NoByteLeft, BytesIgnored, ZeroValue, ShortChild, ShortHead, ShortSize, ShortKey, LongKey}
+use Rattle.std.specs.Prelude.{Result, Ok, Err}
 use Rattle.codec.specs.declared.Head.{Head}
-use Rattle.codec.specs.declared.Head.TheVariants.{Separator, Ended}
 use Rattle.codec.specs.declared.Places.{Places}
 use Rattle.codec.specs.declared.Strict.{Strict}
 use Rattle.codec.specs.declared.Strict.TheVariants.{LowSize, EndsIn}
@@ -22,35 +21,49 @@ use Rattle.codec.specs.declared.Reading.{Reading}
 use Rattle.codec.specs.declared.Stopped.{Stopped}
 use Rattle.codec.specs.Codec.{head_at, scan_from, settle, scan}
 use Rattle.codec.specs.Layout.{places_of, reading_of, key_place}
-use Rattle.codec.specs.Strict.{end_number, is_low, ends_at, judge, strict_from, strict_end, standard_of, strict_reading}
+use Rattle.codec.specs.Strict.{is_low, ends_at, judge, strict_from, strict_end, standard_of, strict_reading}
 
 -- ---- a size below 255 behind 0xFF
+
+below_255 : (n : ℕ) → ltb n 255 ≡ not (leb 255 n)
+below_255 n = go (ltb n 255) refl
+  where
+    go : (b : Bool) → ltb n 255 ≡ b → ltb n 255 ≡ not (leb 255 n)
+    go true e = e ∙ sym (ap not (lt-leb 255 n (ltb-true n 255 e)))
+    go false e = e ∙ sym (ap not (le-leb 255 n (ltb-false n 255 e)))
 
 module _ (s : List ℕ) (at : ℕ) {b : Bool} (f : b ≡ fits_in (length s) at 13) where
   pub low_1 : not b ≡ true → false ≡ is_low s at
   unfolding is_low
   low_1 t = rw (sym f ∙ not-true b t)
 
-  pub low_2 : not b ≡ false → get_or s (at + 8) 0 < 255 → false ≡ is_low s at
+  pub low_2 : not b ≡ false → get_or s (at + 8) 0 < 255 → leb 255 (get_or s (at + 8) 0) ≡ is_low s at
   unfolding is_low
   low_2 t l = rw (sym f ∙ not-false b t, lt-leb 255 (get_or s (at + 8) 0) l)
 
-  pub low_3 : {n : ℕ} {l : Bool} → not b ≡ false → 255 ≤ get_or s (at + 8) 0 → n ≡ read_at 4 s (at + 9) → l ≡ leb 255 n → not l ≡ is_low s at
+  pub low_3 : {n : ℕ} → not b ≡ false → 255 ≤ get_or s (at + 8) 0 → n ≡ read_at 4 s (at + 9) → ltb n 255 ≡ is_low s at
   unfolding is_low
-  low_3 t h e q = rw (sym f ∙ not-false b t, le-leb 255 (get_or s (at + 8) 0) h, ← e, q)
+  low_3 {n} t h e = rw (sym f ∙ not-false b t, le-leb 255 (get_or s (at + 8) 0) h, ← e) (below_255 n)
 
-module _ (s : List ℕ) (at : ℕ) (e : Ending) {m : ℕ} (n : m ≡ end_number e) where
-  pub ends_1 : {b : Bool} → m ≡ 19 → b ≡ is_low s at → b ≡ true → LowSize ≡ ends_at s at e
+module _ (s : List ℕ) (at : ℕ) {b : Bool} (f : b ≡ is_low s at) where
+  pub ends_1 : b ≡ true → LowSize ≡ ends_at s at ZeroValue
   unfolding ends_at
-  ends_1 z q t = let w : (eqb (end_number e) 19 && is_low s at) ≡ true = rw (← n, eq-eqb m 19 z, ← q, t) in sym (pick_t _ _ w)
+  ends_1 t = sym (pick_t _ _ (sym f ∙ t))
 
-  pub ends_2 : {b : Bool} → m ≡ 19 → b ≡ is_low s at → b ≡ false → EndsIn e ≡ ends_at s at e
+  pub ends_2 : b ≡ false → EndsIn ZeroValue ≡ ends_at s at ZeroValue
   unfolding ends_at
-  ends_2 z q t = let w : (eqb (end_number e) 19 && is_low s at) ≡ false = rw (← n, eq-eqb m 19 z, ← q, t) in sym (pick_f _ _ w)
+  ends_2 t = sym (pick_f _ _ (sym f ∙ t))
 
-  pub ends_3 : (m ≡ 19 → ⊥) → EndsIn e ≡ ends_at s at e
-  unfolding ends_at
-  ends_3 z = let w : (eqb (end_number e) 19 && is_low s at) ≡ false = rw (← n, ne_eqb m 19 z) in sym (pick_f _ _ w)
+pub ends_3 : (s : List ℕ) (at : ℕ) (e : Ending) → (e ≡ ZeroValue → ⊥) → EndsIn e ≡ ends_at s at e
+unfolding ends_at
+ends_3 s at NoByteLeft n = sym (pick_f _ _ refl)
+ends_3 s at LongKey n = sym (pick_f _ _ refl)
+ends_3 s at ShortChild n = sym (pick_f _ _ refl)
+ends_3 s at ShortHead n = sym (pick_f _ _ refl)
+ends_3 s at ShortSize n = sym (pick_f _ _ refl)
+ends_3 s at ShortKey n = sym (pick_f _ _ refl)
+ends_3 s at ZeroValue n = absurd (n refl)
+ends_3 s at BytesIgnored n = sym (pick_f _ _ refl)
 
 -- ---- the loop
 
@@ -82,19 +95,19 @@ module _ (s : List ℕ) where
         pub strict_whole : at + 8 ≡ length s → stopped (EndsIn NoByteLeft) (at + 8) ≡ strict_end s
         strict_whole e = sym (l ∙ from_index ∙ pick_t _ _ (sym f ∙ not-false _ t) ∙ pick_t _ _ (eq-eqb _ _ e))
 
-        module _ (n : at + 8 ≡ length s → ⊥) {d : Head} (a : d ≡ head_at s (at + 8)) where
-          judged_lem : {q : Head} → d ≡ q → strict_end s ≡ judge s (strict_from s (8 - (i + 1))) (at + 8) q
+        module _ (n : at + 8 ≡ length s → ⊥) {d : Result Head Ending} (a : d ≡ head_at s (at + 8)) where
+          judged_lem : {q : Result Head Ending} → d ≡ q → strict_end s ≡ judge s (strict_from s (8 - (i + 1))) (at + 8) q
           judged_lem k = l ∙ from_index ∙ pick_t _ _ (sym f ∙ not-false _ t) ∙ pick_f _ _ (ne_eqb _ _ n) ∙ ap (judge s (strict_from s (8 - (i + 1))) (at + 8)) (sym a ∙ k)
 
-          pub strict_ends : {e : Ending} {r : Strict} → d ≡ Ended e → r ≡ ends_at s (at + 8) e → stopped r (at + 8) ≡ strict_end s
+          pub strict_ends : {e : Ending} {r : Strict} → d ≡ Err e → r ≡ ends_at s (at + 8) e → stopped r (at + 8) ≡ strict_end s
           strict_ends k q = ap (λ (x : Strict). stopped x (at + 8)) q ∙ sym (judged_lem k)
 
-          module _ {v : Value} {start len : ℕ} {plain : Bool} (k : d ≡ Separator v start len plain) where
-            pub strict_low : not plain ≡ true → stopped LowSize (at + 8) ≡ strict_end s
-            strict_low p = sym (judged_lem k ∙ pick_f _ _ (not-true plain p))
+          module _ {g : Head} (k : d ≡ Ok g) where
+            pub strict_low : not g.plain ≡ true → stopped LowSize (at + 8) ≡ strict_end s
+            strict_low p = sym (judged_lem k ∙ pick_f _ _ (not-true g.plain p))
 
-            pub strict_turn : not plain ≡ false → LeftOver (start + len) (i + 1)
-            strict_turn p = judged_lem k ∙ pick_t _ _ (not-false plain p)
+            pub strict_turn : not g.plain ≡ false → LeftOver (g.start + g.len) (i + 1)
+            strict_turn p = judged_lem k ∙ pick_t _ _ (not-false g.plain p)
 
   -- behind the eighth separator
   pub strict_last : (at i : ℕ) {r : Stopped} → LeftOver at i → 8 ≤ i → i ≤ 8 → r ≡ strict_from s 0 at → r ≡ strict_end s

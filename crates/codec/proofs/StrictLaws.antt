@@ -14,8 +14,8 @@ use Rattle.word.specs.Num.{Bytes}
 use Rattle.word.specs.At.{fits_in, read_at}
 use Rattle.codec.specs.declared.Ending.{Ending}
 use Rattle.codec.specs.declared.Ending.TheVariants.{NoByteLeft, BytesIgnored, ZeroValue, ShortChild, ShortHead, ShortSize, ShortKey, LongKey}
+use Rattle.std.specs.Prelude.{Result, Ok, Err}
 use Rattle.codec.specs.declared.Head.{Head}
-use Rattle.codec.specs.declared.Head.TheVariants.{Separator, Ended}
 use Rattle.codec.specs.declared.Reading.{Reading}
 use Rattle.codec.specs.declared.Strict.{Strict}
 use Rattle.codec.specs.declared.Strict.TheVariants.{LowSize, EndsIn}
@@ -84,11 +84,11 @@ module _ (s : List ℕ) where
   EndsThere NoByteLeft at = at ≡ length s
   EndsThere BytesIgnored at = at < length s
   EndsThere ShortChild at = fits_in (length s) at 8 ≡ false
-  EndsThere ZeroValue at = head_at s at ≡ Ended ZeroValue
-  EndsThere ShortHead at = head_at s at ≡ Ended ShortHead
-  EndsThere ShortSize at = head_at s at ≡ Ended ShortSize
-  EndsThere ShortKey at = head_at s at ≡ Ended ShortKey
-  EndsThere LongKey at = head_at s at ≡ Ended LongKey
+  EndsThere ZeroValue at = head_at s at ≡ Err ZeroValue
+  EndsThere ShortHead at = head_at s at ≡ Err ShortHead
+  EndsThere ShortSize at = head_at s at ≡ Err ShortSize
+  EndsThere ShortKey at = head_at s at ≡ Err ShortKey
+  EndsThere LongKey at = head_at s at ≡ Err LongKey
 
   abbrev pub StopsThere : Strict → ℕ → Type 0
   StopsThere LowSize at = is_low s at ≡ true
@@ -105,9 +105,9 @@ module _ (s : List ℕ) where
   -- ---- one separator
 
   -- a head that is no separator is what stands there; one that is, with its size not as standard form has it, has a low one
-  abbrev HeadTold : ℕ → Head → Type 0
-  HeadTold at (Separator v start len plain) = plain ≡ false → is_low s at ≡ true
-  HeadTold at (Ended e) = head_at s at ≡ Ended e → EndsThere e at
+  abbrev HeadTold : ℕ → Result Head Ending → Type 0
+  HeadTold at (Ok h) = h.plain ≡ false → is_low s at ≡ true
+  HeadTold at (Err e) = head_at s at ≡ Err e → EndsThere e at
 
   key_told : (at v start len : ℕ) (plain : Bool) → (plain ≡ false → is_low s at ≡ true) → HeadTold at (key_at s v start len plain)
   unfolding key_at
@@ -139,19 +139,19 @@ module _ (s : List ℕ) where
       (λ b. record { agrees = (refl, refl); there = h })
 
   judge_beside : (at c : ℕ) (low : ℕ → Scan) (high : ℕ → Stopped) → ((i : ℕ) → Beside (low i) (high i))
-      → (h : Head) → head_at s at ≡ h → HeadTold at h → Beside (follow s low c h) (judge s high at h)
-  judge_beside at c low high ih (Separator v start len plain) q told =
-      by_test (Beside (before c x (low (start + len)))) plain
-      (λ p. let b = ih (start + len) in record { agrees = keep_lem (low (start + len)) (high (start + len)).ending p b.agrees; there = b.there })
+      → (d : Result Head Ending) → head_at s at ≡ d → HeadTold at d → Beside (follow s low c d) (judge s high at d)
+  judge_beside at c low high ih (Ok h) q told =
+      by_test (Beside (before c x (low (h.start + h.len)))) h.plain
+      (λ p. let b = ih (h.start + h.len) in record { agrees = keep_lem (low (h.start + h.len)) (high (h.start + h.len)).ending p b.agrees; there = b.there })
       (λ p. record { agrees = rw p; there = told p })
     where
       x : Spot
-      x = record { value = v.0; start = start; len = len; plain = plain }
+      x = record { value = h.value.0; start = h.start; len = h.len; plain = h.plain }
 
-      keep_lem : (r : Scan) (e : Strict) → plain ≡ true → Agrees r e → Agrees (before c x r) e
-      keep_lem r LowSize p h = rw p h
-      keep_lem r (EndsIn e) p h = (h.0, rw p h.1)
-  judge_beside at c low high ih (Ended e) q told = ends_beside at c e (told q)
+      keep_lem : (r : Scan) (e : Strict) → h.plain ≡ true → Agrees r e → Agrees (before c x r) e
+      keep_lem r LowSize p g = rw p g
+      keep_lem r (EndsIn e) p g = (g.0, rw p g.1)
+  judge_beside at c low high ih (Err e) q told = ends_beside at c e (told q)
 
   -- a child, and what is said of the bytes behind it
   child_beside : (at : ℕ) (r : Scan) (t : Stopped) → (at + 8 ≤ length s → (at + 8 ≡ length s → ⊥) → Beside r t)
@@ -339,11 +339,11 @@ lenient_alike s m q = let t : DecodesTo s (refused m) = subst (DecodesTo s) q (d
 
 -- a value 0 that ends a node lies within the bytes
 module _ (s : List ℕ) (at : ℕ) where
-  abbrev IfZero : Head → Type 0
-  IfZero (Separator v start len plain) = Unit {0}
-  IfZero (Ended e) = e ≡ ZeroValue → (at + 9 ≤ length s) × (read_at 8 s at ≡ 0)
+  abbrev IfZero : Result Head Ending → Type 0
+  IfZero (Ok h) = Unit {0}
+  IfZero (Err e) = e ≡ ZeroValue → (at + 9 ≤ length s) × (read_at 8 s at ≡ 0)
 
-  other : (e : Ending) → eqb (end_number e) 19 ≡ false → IfZero (Ended e)
+  other : (e : Ending) → eqb (end_number e) 19 ≡ false → IfZero (Err e)
   other e n q = absurd (eqb-false (end_number e) 19 n (ap end_number q))
 
   key_zero : (start len : ℕ) (plain : Bool) → at + 9 ≤ length s → IfZero (key_at s (read_at 8 s at) start len plain)
@@ -363,8 +363,8 @@ module _ (s : List ℕ) (at : ℕ) where
       by_test IfZero (fits_in (length s) (at + 9) 4) (λ d. key_zero (at + 13) (read_at 4 s (at + 9)) (leb 255 (read_at 4 s (at + 9))) h) (λ d. other ShortSize refl))
       (λ w. other ShortHead refl)
 
-  zero_there : head_at s at ≡ Ended ZeroValue → (at + 9 ≤ length s) × (read_at 8 s at ≡ 0)
-  zero_there e = let h : IfZero (Ended ZeroValue) = subst IfZero e head_zero in h refl
+  zero_there : head_at s at ≡ Err ZeroValue → (at + 9 ≤ length s) × (read_at 8 s at ≡ 0)
+  zero_there e = let h : IfZero (Err ZeroValue) = subst IfZero e head_zero in h refl
 
 -- ---- 18, 19 and 20: what stands where the reading stopped, and that the bytes are not in standard form
 

@@ -10,7 +10,8 @@ use Rattle.word.specs.Pick.{pick}
 use Rattle.word.specs.Part.{part, over}
 use Rattle.word.specs.Num.{le, un}
 use Rattle.word.specs.At.{fits_in, read_at}
-use Rattle.codec.specs.declared.Written.{Written}
+use Rattle.std.specs.Prelude.{Result}
+use Rattle.codec.specs.declared.WriteError.{WriteError}
 use Rattle.node.specs.declared.Node.{Node}
 use Rattle.node.specs.Chain.{Step, padded, blocks, node_of, steps_of, first_of}
 use Rattle.codec.specs.Codec.{sized, encode_sep, encode_rest, encode, key_at, size_at, head_at, scan_from, settle, scan, ending_number}
@@ -34,7 +35,7 @@ unfolding same_lem
 holds_lem (writes r number len front) =
     let d : List ℕ = replicate 320 7 in
     let n : Node = node_of 0 r in
-    let w : Written = written_of n d in
+    let w : Result ℕ WriteError = written_of n d in
     let left : List ℕ = left_by w n d in
     eqb (written_number w) number && (eqb (written_length w) len && (same_lem (take (length front) left) front && same_lem (drop len left) (drop len d)))
 holds_lem (reads s number count) = eqb (ending_number (reading_of s).ending) number && eqb (reading_of s).node.count count

@@ -19,8 +19,8 @@ use Rattle.codec.specs.declared.Ending.{Ending}
 use Rattle.codec.specs.declared.Ending.TheVariants.{NoByteLeft}
 use Rattle.node.specs.declared.Node.{Node}
 use Rattle.codec.specs.declared.Reading.{Reading}
-use Rattle.codec.specs.declared.Written.{Written}
-use Rattle.codec.specs.declared.Written.TheVariants.{Done, TooMany, LongKey, NoValue, ShortDestination}
+use Rattle.std.specs.Prelude.{Result, Ok, Err}
+use Rattle.codec.specs.declared.WriteError.{WriteError}
 use Rattle.node.specs.Chain.{Step, longest_key, FitAll, Writable, value_of, child_of, node_of, trimmed, steps_from, steps_of, first_of}
 use Rattle.codec.specs.Codec.{rest_length, encode, Standard, is_accepted, ending_number, is_no_byte_left, Spot, Scan, stop, settle, scan_from, scan, step_of, Decoded, refused, accepted, decode}
 use Rattle.codec.specs.Layout.{all_plain, layout, places_of, reading_of, key_place, any_of, any_first, is_long, is_none, written_of, left_by}
@@ -124,12 +124,9 @@ pub record Accepted (n : Node) (d : List ℕ) (len : ℕ) : Type 0 where
   pub room : length (encode (first_of n) (steps_of n)) ≤ length d
   pub len_is : len ≡ length (encode (first_of n) (steps_of n))
 
-abbrev IfDone : Node → List ℕ → Written → Type 0
-IfDone n d (Done len) = Accepted n d len
-IfDone n d TooMany = Unit {0}
-IfDone n d LongKey = Unit {0}
-IfDone n d NoValue = Unit {0}
-IfDone n d ShortDestination = Unit {0}
+abbrev IfDone : Node → List ℕ → Result ℕ WriteError → Type 0
+IfDone n d (Ok len) = Accepted n d len
+IfDone n d (Err e) = Unit {0}
 
 if_done : (n : Node) (d : List ℕ) → IfDone n d (written_of n d)
 unfolding written_of
@@ -140,7 +137,7 @@ if_done n d =
     by_test (IfDone n d) (ltb (length d) (length (encode (first_of n) (steps_of n)))) (λ e. tt) λ e.
     record { few = ltb-false 8 n.count a; short = b; there = c; room = ltb-false (length d) (length (encode (first_of n) (steps_of n))) e; len_is = refl }
 
-pub when_done : (n : Node) (d : List ℕ) (len : ℕ) → written_of n d ≡ Done len → Accepted n d len
+pub when_done : (n : Node) (d : List ℕ) (len : ℕ) → written_of n d ≡ Ok len → Accepted n d len
 when_done n d len e = subst (IfDone n d) e (if_done n d)
 
 module _ (n : Node) (t : Typed n) (short : any_first is_long n.count n.lens ≡ false) (there : any_first is_none n.count n.values ≡ false) (few : n.count ≤ 8) where
@@ -166,7 +163,7 @@ length_steps n i zero = refl
 length_steps n i (suc k) = ap suc (length_steps n (i + 1) k)
 
 -- what can be written of a node that `write` accepts
-pub node_writable : (n : Node) (d : List ℕ) (len : ℕ) → Typed n → written_of n d ≡ Done len → Writable (first_of n) (steps_of n)
+pub node_writable : (n : Node) (d : List ℕ) (len : ℕ) → Typed n → written_of n d ≡ Ok len → Writable (first_of n) (steps_of n)
 unfolding first_of steps_of
 node_writable n d len t e =
     let a = when_done n d len e in
@@ -184,8 +181,8 @@ over_front : (d b : List ℕ) → take (length b) (over d 0 b) ≡ b
 unfolding over
 over_front d b = take_at b (drop (0 + length b) d) (length b) refl
 
-pub written_reads_back : (n : Node) (d : List ℕ) (len : ℕ) → Typed n → written_of n d ≡ Done len
-    → reading_of (take len (left_by (Done len) n d)) ≡ record { ending = NoByteLeft; node = trimmed n }
+pub written_reads_back : (n : Node) (d : List ℕ) (len : ℕ) → Typed n → written_of n d ≡ Ok len
+    → reading_of (take len (left_by (Ok len) n d)) ≡ record { ending = NoByteLeft; node = trimmed n }
 unfolding trimmed
 written_reads_back n d len t e =
     let a = when_done n d len e in
@@ -193,7 +190,7 @@ written_reads_back n d len t e =
 
 -- ---- "a node in standard form, read and written, gives the same bytes"
 
-pub writes_chain : (c : ℕ) (r : List Step) (d : List ℕ) → Writable c r → length (encode c r) ≤ length d → written_of (node_of c r) d ≡ Done (length (encode c r))
+pub writes_chain : (c : ℕ) (r : List Step) (d : List ℕ) → Writable c r → length (encode c r) ≤ length d → written_of (node_of c r) d ≡ Ok (length (encode c r))
 unfolding written_of
 writes_chain c r d w h =
     let few : (node_of c r).count ≤ 8 = rw (count_node c r) w.most in
@@ -201,7 +198,7 @@ writes_chain c r d w h =
     ∙ rw (first_node c r, steps_node c r w.rest) (pick_f _ _ (le-ltb (length d) (length (encode c r)) h))
 
 pub record SameBytes (s d : List ℕ) (n : Node) : Type 0 where
-  pub done : written_of n d ≡ Done (length s)
+  pub done : written_of n d ≡ Ok (length s)
   pub bytes : left_by (written_of n d) n d ≡ over d 0 s
 
 pub standard_same_bytes : (s d : List ℕ) → Standard s → length s ≤ length d → SameBytes s d (reading_of s).node
@@ -264,5 +261,5 @@ pub key_once : (s : List ℕ) (i : ℕ) {r q : List ℕ} → r ≡ part s (key_p
 key_once s i p q = once p q
 
 -- the answer and the destination
-pub write_once : (n : Node) (d : List ℕ) {w v : Written} {e f : List ℕ} → (w ≡ written_of n d) × (e ≡ left_by (written_of n d) n d) → (v ≡ written_of n d) × (f ≡ left_by (written_of n d) n d) → (w ≡ v) × (e ≡ f)
+pub write_once : (n : Node) (d : List ℕ) {w v : Result ℕ WriteError} {e f : List ℕ} → (w ≡ written_of n d) × (e ≡ left_by (written_of n d) n d) → (v ≡ written_of n d) × (f ≡ left_by (written_of n d) n d) → (w ≡ v) × (e ≡ f)
 write_once n d p q = (once p.0 q.0, once p.1 q.1)

@@ -20,11 +20,12 @@ use Rattle.word.proofs.AtLaws.{fits_in_lem, fits_true, fitted, write_at_in, copy
 use Rattle.tree.specs.Map.{Sep}
 use Rattle.node.specs.declared.Value.{Value}
 use Rattle.node.specs.declared.Node.{Node}
-use Rattle.codec.specs.declared.Written.{Written}
-use Rattle.codec.specs.declared.Written.TheVariants.{Done, TooMany, LongKey, NoValue, ShortDestination}
+use Rattle.std.specs.Prelude.{Result, Ok, Err}
+use Rattle.codec.specs.declared.WriteError.{WriteError}
+use Rattle.codec.specs.declared.WriteError.TheVariants.{LongKey, NoValue, ShortDestination, TooMany}
 use Rattle.node.specs.Chain.{Step, longest_key, value_of, child_of, steps_from, steps_of, first_of}
 use Rattle.codec.specs.Codec.{sized, sep_length, rest_length, encode_sep, encode_rest, encode}
-use Rattle.codec.specs.Layout.{any_of, any_first, is_long, is_none, written_of, left_by, written_length}
+use Rattle.codec.specs.Layout.{any_of, any_first, is_long, is_none, written_of, left_by}
 use Rattle.codec.specs.Mirror.{width_all, width_first, measured, put_sep}
 use Rattle.codec.proofs.EncodeLaws.{length_sep, rest_append, length_encode, sep_least, sep_long}
 use Rattle.codec.proofs.Theorems.{none_long_at}
@@ -82,26 +83,27 @@ width_end n a i l h = ap (width_all a) (take_none 0 l n i h)
 -- ---- measure
 
 module _ (n : ℕ) (lens : List ℕ) (values : List Value) where
-  pub measure_1 : 8 < n → TooMany ≡ measured n lens values
+  pub measure_1 : 8 < n → Err TooMany ≡ measured n lens values
   unfolding measured
   measure_1 h = sym (pick_t _ _ (lt-ltb 8 n h))
 
-  module _ {b : Bool} (h : n ≤ 8) (f : b ≡ any_first is_long n lens) where
-    pub measure_2 : b ≡ true → LongKey ≡ measured n lens values
-    unfolding measured
+  module _ {b : Bool} (h : n ≤ 8) (f : b ≡ any_of is_long (take n lens)) where
+    pub measure_2 : b ≡ true → Err LongKey ≡ measured n lens values
+    unfolding measured any_first
     measure_2 t = sym (pick_f _ _ (le-ltb 8 n h) ∙ pick_t _ _ (sym f ∙ t))
 
-    module _ {c : Bool} (t : b ≡ false) (g : c ≡ any_first is_none n values) where
-      pub measure_3 : c ≡ true → NoValue ≡ measured n lens values
-      unfolding measured
+    module _ {c : Bool} (t : b ≡ false) (g : c ≡ any_of is_none (take n values)) where
+      pub measure_3 : c ≡ true → Err NoValue ≡ measured n lens values
+      unfolding measured any_first
       measure_3 u = sym (pick_f _ _ (le-ltb 8 n h) ∙ pick_f _ _ (sym f ∙ t) ∙ pick_t _ _ (sym g ∙ u))
 
-      pub measure_4 : {w i : ℕ} → c ≡ false → width_first 8 n lens ≡ width_first w (n - i) (drop i lens) → n ≤ i → Done w ≡ measured n lens values
-      unfolding measured
-      measure_4 {w} {i} u e k = sym (pick_f _ _ (le-ltb 8 n h) ∙ pick_f _ _ (sym f ∙ t) ∙ pick_f _ _ (sym g ∙ u) ∙ ap Done (e ∙ width_end n w i lens k))
+      pub measure_4 : {w i : ℕ} → c ≡ false → width_first 8 n lens ≡ width_first w (n - i) (drop i lens) → n ≤ i → Ok w ≡ measured n lens values
+      unfolding measured any_first
+      measure_4 {w} {i} u e k = sym (pick_f _ _ (le-ltb 8 n h) ∙ pick_f _ _ (sym f ∙ t) ∙ pick_f _ _ (sym g ∙ u) ∙ ap Ok (e ∙ width_end n w i lens k))
 
     -- a length that `measure` adds up
     pub measure_short : b ≡ false → (i : ℕ) → i < n → get_or lens i 0 ≤ 288
+    unfolding any_first
     measure_short t i k = none_long_at n lens i (sym f ∙ t) k
 
 -- ---- a separator at a place
@@ -261,12 +263,9 @@ module _ (n : Node) (eight : length n.lens ≡ 8) (keys : length n.keys ≡ 2304
   width_is = width_adds 8 0 (take n.count n.lens) ∙ ap (λ (m : ℕ). 8 + m) (width_rest 0 n.count (zero-add n.count)) ∙ sym (length_encode (first_of n) (steps_from n 0 n.count))
 
 -- what `write` makes of the measure
-abbrev room_for : List ℕ → Written → Written
-room_for d (Done len) = pick (ltb (length d) len) ShortDestination (Done len)
-room_for d TooMany = TooMany
-room_for d LongKey = LongKey
-room_for d NoValue = NoValue
-room_for d ShortDestination = ShortDestination
+abbrev room_for : List ℕ → Result ℕ WriteError → Result ℕ WriteError
+room_for d (Ok len) = pick (ltb (length d) len) (Err ShortDestination) (Ok len)
+room_for d (Err e) = Err e
 
 pub record Measured (n : Node) (len : ℕ) : Type 0 where
   pub few : n.count ≤ 8
@@ -274,12 +273,9 @@ pub record Measured (n : Node) (len : ℕ) : Type 0 where
   pub len_is : len ≡ length (encode (first_of n) (steps_of n))
 
 module _ (n : Node) (eight : length n.lens ≡ 8) (keys : length n.keys ≡ 2304) where
-  abbrev IfMeasured : Written → Type 0
-  IfMeasured (Done len) = Measured n len
-  IfMeasured TooMany = Unit {0}
-  IfMeasured LongKey = Unit {0}
-  IfMeasured NoValue = Unit {0}
-  IfMeasured ShortDestination = Unit {0}
+  abbrev IfMeasured : Result ℕ WriteError → Type 0
+  IfMeasured (Ok len) = Measured n len
+  IfMeasured (Err e) = Unit {0}
 
   if_measured : IfMeasured (measured n.count n.lens n.values)
   unfolding measured
@@ -291,56 +287,30 @@ module _ (n : Node) (eight : length n.lens ≡ 8) (keys : length n.keys ≡ 2304
       let short : (i : ℕ) → i < n.count → get_or n.lens i 0 ≤ 288 = λ i k. none_long_at n.count n.lens i b k in
       record { few = few; short = short; len_is = width_is n eight keys few short }
 
-  pub when_measured : {w : Written} {len : ℕ} → w ≡ measured n.count n.lens n.values → w ≡ Done len → Measured n len
-  when_measured e f = subst IfMeasured (sym e ∙ f) if_measured
+  pub measured_fine : {w : Result ℕ WriteError} {len : ℕ} → w ≡ measured n.count n.lens n.values → w ≡ Ok len → Measured n len
+  measured_fine e f = subst IfMeasured (sym e ∙ f) if_measured
 
   written_is : (d : List ℕ) → written_of n d ≡ room_for d (measured n.count n.lens n.values)
   unfolding written_of measured
   written_is d =
-      by_test (λ (w : Written). w ≡ room_for d (measured n.count n.lens n.values)) (ltb 8 n.count) (λ a. ap (room_for d) (sym (pick_t _ _ a))) λ a.
-      by_test (λ (w : Written). w ≡ room_for d (measured n.count n.lens n.values)) (any_first is_long n.count n.lens) (λ b. ap (room_for d) (sym (pick_f _ _ a ∙ pick_t _ _ b))) λ b.
-      by_test (λ (w : Written). w ≡ room_for d (measured n.count n.lens n.values)) (any_first is_none n.count n.values) (λ c. ap (room_for d) (sym (pick_f _ _ a ∙ pick_f _ _ b ∙ pick_t _ _ c))) λ c.
+      by_test (λ (w : Result ℕ WriteError). w ≡ room_for d (measured n.count n.lens n.values)) (ltb 8 n.count) (λ a. ap (room_for d) (sym (pick_t _ _ a))) λ a.
+      by_test (λ (w : Result ℕ WriteError). w ≡ room_for d (measured n.count n.lens n.values)) (any_first is_long n.count n.lens) (λ b. ap (room_for d) (sym (pick_f _ _ a ∙ pick_t _ _ b))) λ b.
+      by_test (λ (w : Result ℕ WriteError). w ≡ room_for d (measured n.count n.lens n.values)) (any_first is_none n.count n.values) (λ c. ap (room_for d) (sym (pick_f _ _ a ∙ pick_f _ _ b ∙ pick_t _ _ c))) λ c.
       let few = ltb-false 8 n.count a in
       let short : (i : ℕ) → i < n.count → get_or n.lens i 0 ≤ 288 = λ i k. none_long_at n.count n.lens i b k in
       sym (ap (room_for d) (pick_f _ _ a ∙ pick_f _ _ b ∙ pick_f _ _ c) ∙ rw (width_is n eight keys few short))
 
-  module _ {w : Written} {k : ℕ} (m : w ≡ measured n.count n.lens n.values) (p : k ≡ written_length w) (z : k ≡ 0 → ⊥) where
-    pub is_done : w ≡ Done k
-    is_done = by_answer w refl
-      where
-        by_answer : (r : Written) → w ≡ r → w ≡ Done k
-        by_answer (Done len) e = e ∙ ap Done (sym (p ∙ ap written_length e))
-        by_answer TooMany e = absurd (z (p ∙ ap written_length e))
-        by_answer LongKey e = absurd (z (p ∙ ap written_length e))
-        by_answer NoValue e = absurd (z (p ∙ ap written_length e))
-        by_answer ShortDestination e = absurd (z (p ∙ ap written_length e))
+  module _ (d : List ℕ) {w : Result ℕ WriteError} (m : w ≡ measured n.count n.lens n.values) where
+    -- a refusal of the measure is the answer
+    pub write_refused : {e : WriteError} → w ≡ Err e → (Err e ≡ written_of n d) × (d ≡ left_by (written_of n d) n d)
+    write_refused f = let is : written_of n d ≡ Err _ = written_is d ∙ ap (room_for d) (sym m ∙ f) in (sym is, rw is)
 
-    pub measured_fine : Measured n k
-    measured_fine = when_measured m is_done
+    module _ {k : ℕ} (f : w ≡ Ok k) where
+      pub write_short : length d < k → (Err ShortDestination ≡ written_of n d) × (d ≡ left_by (written_of n d) n d)
+      write_short h = let is : written_of n d ≡ Err ShortDestination = written_is d ∙ ap (room_for d) (sym m ∙ f) ∙ pick_t _ _ (lt-ltb (length d) k h) in (sym is, rw is)
 
-  module _ (d : List ℕ) {w : Written} (m : w ≡ measured n.count n.lens n.values) where
-    refused : (r : Written) → w ≡ r → room_for d r ≡ r → left_by r n d ≡ d → (w ≡ written_of n d) × (d ≡ left_by (written_of n d) n d)
-    refused r e same left =
-        let is : written_of n d ≡ r = written_is d ∙ ap (room_for d) (sym m ∙ e) ∙ same in
-        (e ∙ sym is, rw is (sym left))
-
-    -- a refusal has no length
-    pub write_refused : {k : ℕ} → k ≡ written_length w → k ≡ 0 → (w ≡ written_of n d) × (d ≡ left_by (written_of n d) n d)
-    write_refused p z = by_answer w refl (sym p ∙ z)
-      where
-        by_answer : (r : Written) → w ≡ r → written_length r ≡ 0 → (w ≡ written_of n d) × (d ≡ left_by (written_of n d) n d)
-        by_answer (Done len) e l = absurd (omega (arith, (when_measured m e).len_is, length_encode (first_of n) (steps_of n)))
-        by_answer TooMany e l = refused TooMany e refl refl
-        by_answer LongKey e l = refused LongKey e refl refl
-        by_answer NoValue e l = refused NoValue e refl refl
-        by_answer ShortDestination e l = refused ShortDestination e refl refl
-
-    module _ {k : ℕ} (p : k ≡ written_length w) (z : k ≡ 0 → ⊥) where
-      pub write_short : length d < k → (ShortDestination ≡ written_of n d) × (d ≡ left_by (written_of n d) n d)
-      write_short h = let is : written_of n d ≡ ShortDestination = written_is d ∙ ap (room_for d) (sym m ∙ is_done m p z) ∙ pick_t _ _ (lt-ltb (length d) k h) in (sym is, rw is)
-
-      pub write_done : {d2 : List ℕ} → k ≤ length d → d2 ≡ over d 0 (encode (first_of n) (steps_of n)) → (w ≡ written_of n d) × (d2 ≡ left_by (written_of n d) n d)
-      write_done h q = let is : written_of n d ≡ Done k = written_is d ∙ ap (room_for d) (sym m ∙ is_done m p z) ∙ pick_f _ _ (le-ltb (length d) k h) in (is_done m p z ∙ sym is, rw is q)
+      pub write_done : {d2 : List ℕ} → k ≤ length d → d2 ≡ over d 0 (encode (first_of n) (steps_of n)) → (Ok k ≡ written_of n d) × (d2 ≡ left_by (written_of n d) n d)
+      write_done h q = let is : written_of n d ≡ Ok k = written_is d ∙ ap (room_for d) (sym m ∙ f) ∙ pick_f _ _ (le-ltb (length d) k h) in (sym is, rw is q)
 
 -- ---- the loop: the first i separators are written
 

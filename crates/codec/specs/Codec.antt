@@ -1,6 +1,6 @@
 -- 01, "Node bytes": how a chain (first child, then separator and child pairs) is written, and how bytes are read.
 -- Assumes nothing.
-use Rattle.std.specs.Prelude.{◌≡◌, List, [], ◌∷◌, ◌++◌, map, Bool, true, false, ℕ, zero, suc, ◌+◌, length, get_or, leb, ltb, eqb}
+use Rattle.std.specs.Prelude.{◌≡◌, List, [], ◌∷◌, ◌++◌, map, Bool, true, false, ℕ, zero, suc, ◌+◌, length, get_or, leb, ltb, eqb, Result, Ok, Err}
 use Rattle.word.specs.Pick.{pick}
 use Rattle.word.specs.Part.{part}
 use Rattle.word.specs.Num.{le}
@@ -10,7 +10,6 @@ use Rattle.node.specs.Chain.{Step, longest_key, Writable}
 use Rattle.codec.specs.declared.Ending.{Ending}
 use Rattle.codec.specs.declared.Ending.TheVariants.{NoByteLeft, BytesIgnored, ZeroValue, ShortChild, ShortHead, ShortSize, ShortKey, LongKey}
 use Rattle.codec.specs.declared.Head.{Head}
-use Rattle.codec.specs.declared.Head.TheVariants.{Separator, Ended}
 
 -- ---- writing
 
@@ -95,30 +94,30 @@ before c x r = record { ending = r.ending; first = c; rest = (x, r.first) ∷ r.
 module _ (s : List ℕ) where
   -- "Reading a separator: 12, 13, 14, end at value 0, 4."
   -- "A separator whose value address is 0 ends the node; its key must still be there but may have any length."
-  unfoldable pub key_at : ℕ → ℕ → ℕ → Bool → Head
+  unfoldable pub key_at : ℕ → ℕ → ℕ → Bool → Result Head Ending
   key_at v start len plain =
       pick (fits_in (length s) start len)
-      (pick (eqb v 0) (Ended ZeroValue)
-      (pick (ltb longest_key len) (Ended LongKey)
-      (Separator (record { 0 = v }) start len plain)))
-      (Ended ShortKey)
+      (pick (eqb v 0) (Err ZeroValue)
+      (pick (ltb longest_key len) (Err LongKey)
+      (Ok (record { value = record { 0 = v }; start = start; len = len; plain = plain }))))
+      (Err ShortKey)
 
   -- "A length below 255 behind 0xFF is read."
-  unfoldable pub size_at : ℕ → ℕ → Head
+  unfoldable pub size_at : ℕ → ℕ → Result Head Ending
   size_at v at =
       pick (ltb (get_or s (at + 8) 0) 255)
       (key_at v (at + 9) (get_or s (at + 8) 0) true)
       (pick (fits_in (length s) (at + 9) 4)
       (key_at v (at + 13) (read_at 4 s (at + 9)) (leb 255 (read_at 4 s (at + 9))))
-      (Ended ShortSize))
+      (Err ShortSize))
 
-  unfoldable pub head_at : ℕ → Head
-  head_at at = pick (fits_in (length s) at 9) (size_at (read_at 8 s at) at) (Ended ShortHead)
+  unfoldable pub head_at : ℕ → Result Head Ending
+  head_at at = pick (fits_in (length s) at 9) (size_at (read_at 8 s at) at) (Err ShortHead)
 
   -- the child c is read, and what stands there is a separator and what next reads behind it, or ends the node
-  abbrev pub follow : (ℕ → Scan) → ℕ → Head → Scan
-  follow next c (Separator v start len plain) = before c (record { value = v.0; start = start; len = len; plain = plain }) (next (start + len))
-  follow next c (Ended e) = stop e c
+  abbrev pub follow : (ℕ → Scan) → ℕ → Result Head Ending → Scan
+  follow next c (Ok h) = before c (record { value = h.value.0; start = h.start; len = h.len; plain = h.plain }) (next (h.start + h.len))
+  follow next c (Err e) = stop e c
 
   -- "Reading: a child; stop after the ninth. Then, if no byte is left, stop." `k` separators may still come.
   -- "Bytes after the end are ignored." "Key order isn't looked at."

@@ -1,14 +1,17 @@
 -- The code's structs for what the chains of Codec say, and what `read`, `key` and `write` answer and leave.
 -- Assumes nothing.
-use Rattle.std.specs.Prelude.{List, [], ◌∷◌, map, Bool, true, false, ◌&&◌, ◌||◌, ℕ, zero, suc, length, take, ltb, eqb}
+use Rattle.std.specs.Prelude.{List, [], ◌∷◌, map, Bool, true, ◌&&◌, ℕ, zero, suc, length, take, ltb, eqb, Result, Ok, Err}
+use Rattle.std.specs.Result.{result_unwrap_or}
+use Rattle.std.specs.List.{list_any}
+use Rattle.refusal.specs.Number.{answer_number}
 use Rattle.word.specs.Pick.{pick}
 use Rattle.word.specs.Part.{over}
 use Rattle.node.specs.declared.Value.{Value}
 use Rattle.node.specs.declared.Node.{Node}
 use Rattle.codec.specs.declared.Places.{Places}
 use Rattle.codec.specs.declared.Reading.{Reading}
-use Rattle.codec.specs.declared.Written.{Written}
-use Rattle.codec.specs.declared.Written.TheVariants.{Done, TooMany, LongKey, NoValue, ShortDestination}
+use Rattle.codec.specs.declared.WriteError.{WriteError}
+use Rattle.codec.specs.declared.WriteError.TheVariants.{LongKey, NoValue, ShortDestination, TooMany}
 use Rattle.node.specs.Chain.{longest_key, padded, value_of, child_of, node_of, steps_of, first_of}
 use Rattle.codec.specs.Codec.{encode, Spot, Scan, scan, step_of, is_no_byte_left}
 
@@ -58,8 +61,7 @@ key_place s i = place_in (scan s).rest i
 -- ---- writing: any node may be offered, whatever its fields hold
 
 abbrev pub any_of : {A : Type 0} → (A → Bool) → List A → Bool
-any_of f [] = false
-any_of f (x ∷ l) = f x || any_of f l
+any_of f l = list_any f l
 
 -- whether f holds of one of the first n of l
 unfoldable pub any_first : {A : Type 0} → (A → Bool) → ℕ → List A → Bool
@@ -72,33 +74,28 @@ abbrev pub is_none : Value → Bool
 is_none x = eqb x.0 0
 
 -- "Writing: 16, 4 for any separator, 5 for any, 10." "It goes to the front of the destination"
-unfoldable pub written_of : Node → List ℕ → Written
+unfoldable pub written_of : Node → List ℕ → Result ℕ WriteError
 written_of n d =
-    pick (ltb 8 n.count) TooMany
-    (pick (any_first is_long n.count n.lens) LongKey
-    (pick (any_first is_none n.count n.values) NoValue
-    (pick (ltb (length d) (length (encode (first_of n) (steps_of n)))) ShortDestination
-    (Done (length (encode (first_of n) (steps_of n)))))))
+    pick (ltb 8 n.count) (Err TooMany)
+    (pick (any_first is_long n.count n.lens) (Err LongKey)
+    (pick (any_first is_none n.count n.values) (Err NoValue)
+    (pick (ltb (length d) (length (encode (first_of n) (steps_of n)))) (Err ShortDestination)
+    (Ok (length (encode (first_of n) (steps_of n)))))))
 
 -- "the bytes after it stay"; a refusal leaves the destination unchanged
-abbrev pub left_by : Written → Node → List ℕ → List ℕ
-left_by (Done len) n d = over d 0 (encode (first_of n) (steps_of n))
-left_by TooMany n d = d
-left_by LongKey n d = d
-left_by NoValue n d = d
-left_by ShortDestination n d = d
+abbrev pub left_by : Result ℕ WriteError → Node → List ℕ → List ℕ
+left_by (Ok len) n d = over d 0 (encode (first_of n) (steps_of n))
+left_by (Err e) n d = d
 
 -- 01's number, and "the answer has its length (0 if refused)"
-abbrev pub written_number : Written → ℕ
-written_number (Done len) = 0
-written_number TooMany = 16
-written_number LongKey = 4
-written_number NoValue = 5
-written_number ShortDestination = 10
+abbrev pub write_error_number : WriteError → ℕ
+write_error_number LongKey = 4
+write_error_number NoValue = 5
+write_error_number ShortDestination = 10
+write_error_number TooMany = 16
 
-abbrev pub written_length : Written → ℕ
-written_length (Done len) = len
-written_length TooMany = 0
-written_length LongKey = 0
-written_length NoValue = 0
-written_length ShortDestination = 0
+abbrev pub written_number : Result ℕ WriteError → ℕ
+written_number w = answer_number write_error_number w
+
+abbrev pub written_length : Result ℕ WriteError → ℕ
+written_length w = result_unwrap_or w 0

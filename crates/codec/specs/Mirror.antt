@@ -1,5 +1,5 @@
 -- What the loops of the codec leave to do; a proof device, cited by no public contract. Assumes nothing.
-use Rattle.std.specs.Prelude.{List, [], ◌∷◌, map, true, ◌&&◌, ℕ, zero, suc, ◌+◌, ◌*◌, length, get_or, take, replicate, ltb}
+use Rattle.std.specs.Prelude.{List, [], ◌∷◌, map, true, ◌&&◌, ℕ, zero, suc, ◌+◌, ◌*◌, length, get_or, take, replicate, ltb, Result, Ok, Err}
 use Rattle.word.specs.Pick.{pick}
 use Rattle.word.specs.Part.{over}
 use Rattle.word.specs.At.{fits_in, copy_at}
@@ -8,8 +8,8 @@ use Rattle.node.specs.declared.Value.{Value}
 use Rattle.node.specs.EditMirror.{fill}
 use Rattle.codec.specs.declared.Ending.{Ending}
 use Rattle.codec.specs.declared.Places.{Places}
-use Rattle.codec.specs.declared.Written.{Written}
-use Rattle.codec.specs.declared.Written.TheVariants.{Done, TooMany, LongKey, NoValue}
+use Rattle.codec.specs.declared.WriteError.{WriteError}
+use Rattle.codec.specs.declared.WriteError.TheVariants.{LongKey, NoValue, TooMany}
 use Rattle.codec.specs.Codec.{Spot, Scan, stop, is_accepted, is_no_byte_left, sep_length, encode_sep}
 use Rattle.node.specs.Chain.{longest_key, child_of, value_of}
 use Rattle.codec.specs.Layout.{all_plain, layout, any_first, is_long, is_none}
@@ -64,12 +64,12 @@ unfoldable pub width_first : ℕ → ℕ → List ℕ → ℕ
 width_first a n l = width_all a (take n l)
 
 -- what `measure` answers: a refusal, or the length of standard form
-unfoldable pub measured : ℕ → List ℕ → List Value → Written
+unfoldable pub measured : ℕ → List ℕ → List Value → Result ℕ WriteError
 measured n lens values =
-    pick (ltb 8 n) TooMany
-    (pick (any_first is_long n lens) LongKey
-    (pick (any_first is_none n values) NoValue
-    (Done (width_first 8 n lens))))
+    pick (ltb 8 n) (Err TooMany)
+    (pick (any_first is_long n lens) (Err LongKey)
+    (pick (any_first is_none n values) (Err NoValue)
+    (Ok (width_first 8 n lens))))
 
 -- d with the separator at `at`, where its key is not too long and d has the bytes
 unfoldable pub put_sep : List ℕ → ℕ → Sep ℕ → List ℕ

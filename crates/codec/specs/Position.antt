@@ -2,8 +2,9 @@
 use Rattle.std.specs.Prelude.{List, [], ◌∷◌, Bool, true, false, cond, ℕ, zero, suc, ◌+◌, get_or, drop, leb}
 use Rattle.word.specs.Pick.{pick}
 use Rattle.word.specs.Key.{Key, cmp, order_of}
-use Rattle.word.specs.declared.Order.{Order}
-use Rattle.word.specs.declared.Order.TheVariants.{Less, Equal, Greater}
+use Rattle.std.specs.Ordering.{is_eq}
+use Rattle.std.specs.declared.cmp.Ordering.{Ordering}
+use Rattle.std.specs.declared.cmp.Ordering.TheVariants.{Less, Equal, Greater}
 use Rattle.word.specs.Part.{part}
 use Rattle.tree.specs.Map.{Sep}
 use Rattle.tree.specs.Tree.{below, same}
@@ -38,18 +39,13 @@ abbrev pub found : ℕ → Bool → Found
 found i b = record { index = record { 0 = i }; at = b }
 
 -- whether the search goes on behind a key, to which k has this order
-abbrev pub goes_on : Bool → Order → Bool
+abbrev pub goes_on : Bool → Ordering → Bool
 goes_on past Less = false
 goes_on past Equal = past
 goes_on past Greater = true
 
-abbrev pub is_equal : Order → Bool
-is_equal Less = false
-is_equal Equal = true
-is_equal Greater = false
-
 -- the order of k and the key at index i
-unfoldable pub order_at : Places → List ℕ → Key → ℕ → Order
+unfoldable pub order_at : Places → List ℕ → Key → ℕ → Ordering
 order_at p s k i = order_of (cmp k (part s (get_or p.starts i 0) (get_or p.lens i 0)))
 
 -- the search from index i on, n indexes left
@@ -57,7 +53,7 @@ unfoldable pub position_from : Places → List ℕ → Key → Bool → ℕ → 
 position_from p s k past i zero = found 8 false
 position_from p s k past i (suc n) =
     pick (leb p.count i) (found i false)
-    (pick (goes_on past (order_at p s k i)) (position_from p s k past (i + 1) n) (found i (is_equal (order_at p s k i))))
+    (pick (goes_on past (order_at p s k i)) (position_from p s k past (i + 1) n) (found i (is_eq (order_at p s k i))))
 
 unfoldable pub position_of : Places → List ℕ → Key → Bool → Found
 position_of p s k past = position_from p s k past 0 8

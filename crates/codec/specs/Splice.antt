@@ -1,5 +1,5 @@
 -- Node bytes with one more separator and the child right of it, the bytes behind them moved up. Assumes nothing.
-use Rattle.std.specs.Prelude.{List, ◌++◌, ℕ, zero, suc, ◌+◌, length, take, drop, get_or, ltb}
+use Rattle.std.specs.Prelude.{List, ◌++◌, ℕ, zero, suc, ◌+◌, length, take, drop, get_or, ltb, eqb, Option, Some, None}
 use Rattle.word.specs.Pick.{pick}
 use Rattle.word.specs.Part.{over}
 use Rattle.word.specs.Num.{le}
@@ -27,6 +27,10 @@ splice_width e = sep_length (length e.key) + 8
 pub record Spliced : Type 0 where
   pub len : ℕ
   pub bytes : List ℕ
+
+-- the new length where it is done
+abbrev pub new_length : Spliced → Option ℕ
+new_length g = pick (eqb g.len 0) None (Some g.len)
 
 unfoldable pub splice_in : List ℕ → ℕ → ℕ → Sep ℕ → ℕ → Spliced
 splice_in d n p e b =

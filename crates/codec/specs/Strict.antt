@@ -1,12 +1,11 @@
 -- The strict reading: the lenient one of Codec with three refusals more, a long size below 255, a value 0, bytes behind the ninth
 -- child. Assumes nothing.
-use Rattle.std.specs.Prelude.{List, [], Bool, ◌&&◌, not, ℕ, zero, suc, ◌+◌, length, get_or, leb, eqb}
+use Rattle.std.specs.Prelude.{List, [], Bool, ◌&&◌, not, ℕ, zero, suc, ◌+◌, length, get_or, leb, eqb, Result, Ok, Err}
 use Rattle.word.specs.Pick.{pick}
 use Rattle.word.specs.At.{fits_in, read_at}
 use Rattle.codec.specs.declared.Ending.{Ending}
 use Rattle.codec.specs.declared.Ending.TheVariants.{NoByteLeft, BytesIgnored, ZeroValue, ShortChild, ShortHead, ShortSize, ShortKey, LongKey}
 use Rattle.codec.specs.declared.Head.{Head}
-use Rattle.codec.specs.declared.Head.TheVariants.{Separator, Ended}
 use Rattle.codec.specs.declared.Strict.{Strict}
 use Rattle.codec.specs.declared.Strict.TheVariants.{LowSize, EndsIn}
 use Rattle.codec.specs.declared.Stopped.{Stopped}
@@ -43,9 +42,9 @@ module _ (s : List ℕ) where
   ends_at at e = pick (eqb (end_number e) 19 && is_low at) LowSize (EndsIn e)
 
   -- what stands at a place: a separator with its size as standard form has it and what next says behind it, or an end there
-  abbrev pub judge : (ℕ → Stopped) → ℕ → Head → Stopped
-  judge next at (Separator v start len plain) = pick plain (next (start + len)) (record { ending = LowSize; at = at })
-  judge next at (Ended e) = record { ending = ends_at at e; at = at }
+  abbrev pub judge : (ℕ → Stopped) → ℕ → Result Head Ending → Stopped
+  judge next at (Ok h) = pick h.plain (next (h.start + h.len)) (record { ending = LowSize; at = at })
+  judge next at (Err e) = record { ending = ends_at at e; at = at }
 
   -- from a child on, with k separators that may still come: how the reading ends, and where the child or the separator begins that
   -- it refuses, or the first byte too many; where it refuses nothing, the end of the bytes

@@ -5,41 +5,41 @@ ghost use Rattle.std.specs.Prelude.{◌≡◌, ◌&&◌, [], ◌+◌, ◌≤◌,
 ghost use Rattle.word.specs.At.{copy_at};
 ghost use Rattle.word.specs.Part.{part};
 ghost use Rattle.codec.specs.Codec.{head_at, key_at, ending_number, is_accepted, is_no_byte_left, sep_length};
-ghost use Rattle.codec.specs.Layout.{places_of, reading_of, key_place, any_first, is_long, is_none, written_of, left_by, written_number, written_length};
-ghost use Rattle.codec.specs.Strict.{end_number, strict_number, is_low, ends_at, strict_from, strict_end, standard_of, strict_reading};
+ghost use Rattle.codec.specs.Layout.{places_of, reading_of, key_place, any_of, is_long, is_none, written_of, left_by, write_error_number};
+ghost use Rattle.codec.specs.Strict.{strict_number, is_low, ends_at, strict_from, strict_end, standard_of, strict_reading};
 ghost use Rattle.codec.specs.Mirror.{empty_places, ended_with, measured, put_sep};
-ghost use Rattle.codec.specs.Splice.{splice_in};
+ghost use Rattle.codec.specs.Splice.{splice_in, new_length};
 
 use node::{Child, Index, Node, Value};
+use refusal::Refusal;
 
 pub mod position;
 
-// How a reading ended: the first three are accepted.
+// How a reading ended, with the strict reading's numbers; the lenient one accepts with no byte left, at a value 0 and with bytes
+// ignored, and says 0 for each.
 #[derive(Clone, Copy)]
 pub enum Ending {
-    NoByteLeft,
-    BytesIgnored,
-    ZeroValue,
-    ShortChild,
-    ShortHead,
-    ShortSize,
-    ShortKey,
-    LongKey,
+    NoByteLeft = 0,
+    LongKey = 4,
+    ShortChild = 11,
+    ShortHead = 12,
+    ShortSize = 13,
+    ShortKey = 14,
+    ZeroValue = 19,
+    BytesIgnored = 20,
 }
 
-// What stands where a separator may.
+// A separator in node bytes: its value, where its key stands, and whether its size is written as standard form has it.
 #[derive(Clone, Copy)]
-pub enum Head {
-    Separator {
-        value: Value,
-        start: usize,
-        len: usize,
-        plain: bool,
-    },
-    Ended(Ending),
+pub struct Head {
+    pub value: Value,
+    pub start: usize,
+    pub len: usize,
+    pub plain: bool,
 }
 
-// Node bytes read without copying a key: the key of separator i stands in them from starts[i] on.
+// Node bytes read without copying a key: the key of separator i stands in them from starts[i] on. Arrays side by side: the
+// clauses of the exported `cikolaro_node_child` and `cikolaro_node_separator` name them.
 #[derive(Clone, Copy)]
 pub struct Places {
     pub ending: Ending,
@@ -66,6 +66,7 @@ pub struct Stopped {
     pub at: usize,
 }
 
+// No Result, and none of `Reading`: "A refused reading gives the node with no separator and no child."
 #[derive(Clone, Copy)]
 pub struct StrictReading {
     pub ending: Strict,
@@ -79,13 +80,21 @@ pub struct Reading {
     pub node: Node,
 }
 
-#[derive(Clone, Copy)]
-pub enum Written {
-    Done(usize),
-    TooMany,
-    LongKey,
-    NoValue,
-    ShortDestination,
+// Why a node isn't written, with 01's numbers.
+#[derive(Clone, Copy, PartialEq, Eq)]
+pub enum WriteError {
+    LongKey = 4,
+    NoValue = 5,
+    ShortDestination = 10,
+    TooMany = 16,
+}
+
+impl Refusal for WriteError {
+    ghost number_of = { write_error_number };
+
+    fn number(self) -> u32 {
+        self as u32
+    }
 }
 
 impl Ending {
@@ -93,53 +102,22 @@ impl Ending {
     pub fn number(self) -> u32
         ensures { result ≡ ending_number self }
     {
-        match self {
-            Ending::NoByteLeft => 0,
-            Ending::BytesIgnored => 0,
-            Ending::ZeroValue => 0,
-            Ending::ShortChild => 11,
-            Ending::ShortHead => 12,
-            Ending::ShortSize => 13,
-            Ending::ShortKey => 14,
-            Ending::LongKey => 4,
-        }
+        if self.is_accepted() { 0 } else { self as u32 }
     }
 
     pub fn is_accepted(self) -> bool
         ensures { result ≡ is_accepted self }
     {
-        self.number() == 0
-    }
-
-    // The number that a strict reading has for it.
-    fn end_number(self) -> u32
-        ensures { result ≡ end_number self }
-    {
-        match self {
-            Ending::NoByteLeft => 0,
-            Ending::BytesIgnored => 20,
-            Ending::ZeroValue => 19,
-            Ending::ShortChild => 11,
-            Ending::ShortHead => 12,
-            Ending::ShortSize => 13,
-            Ending::ShortKey => 14,
-            Ending::LongKey => 4,
-        }
+        matches!(
+            self,
+            Ending::NoByteLeft | Ending::BytesIgnored | Ending::ZeroValue
+        )
     }
 
     pub fn is_no_byte_left(self) -> bool
         ensures { result ≡ is_no_byte_left self }
     {
-        match self {
-            Ending::NoByteLeft => true,
-            Ending::BytesIgnored => false,
-            Ending::ZeroValue => false,
-            Ending::ShortChild => false,
-            Ending::ShortHead => false,
-            Ending::ShortSize => false,
-            Ending::ShortKey => false,
-            Ending::LongKey => false,
-        }
+        matches!(self, Ending::NoByteLeft)
     }
 }
 
@@ -162,77 +140,38 @@ impl Strict {
     {
         match self {
             Strict::LowSize => 18,
-            Strict::EndsIn(ending) => ending.end_number(),
+            Strict::EndsIn(ending) => ending as u32,
         }
     }
-}
-
-impl Written {
-    // 01's number.
-    pub fn number(self) -> u32
-        ensures { result ≡ written_number self }
-    {
-        match self {
-            Written::Done(_) => 0,
-            Written::TooMany => 16,
-            Written::LongKey => 4,
-            Written::NoValue => 5,
-            Written::ShortDestination => 10,
-        }
-    }
-
-    // The length of standard form, 0 if refused.
-    pub fn length(self) -> usize
-        ensures { result ≡ written_length self }
-    {
-        match self {
-            Written::Done(len) => len,
-            Written::TooMany => 0,
-            Written::LongKey => 0,
-            Written::NoValue => 0,
-            Written::ShortDestination => 0,
-        }
-    }
-}
-
-fn both(a: bool, b: bool) -> bool
-    ensures { result ≡ (a && b) }
-{
-    if a { b } else { false }
 }
 
 // The separator with this value whose key stands at start, or what ends the node there.
-fn read_key(s: &[u8], value: u64, start: usize, len: usize, plain: bool) -> Head
+fn read_key(s: &[u8], value: u64, start: usize, len: usize, plain: bool) -> Result<Head, Ending>
     ensures { result ≡ key_at s.now value start len plain }
 {
     if !word::fits(s.len(), start, len) {
-        return Head::Ended(Ending::ShortKey);
+        return Err(Ending::ShortKey);
     }
     if value == 0 {
-        return Head::Ended(Ending::ZeroValue);
+        return Err(Ending::ZeroValue);
     }
     if 288 < len {
-        return Head::Ended(Ending::LongKey);
+        return Err(Ending::LongKey);
     }
-    Head::Separator {
+    Ok(Head {
         value: Value(value),
-        start: start,
-        len: len,
-        plain: plain,
-    }
+        start,
+        len,
+        plain,
+    })
 }
 
-fn is_long_size(len: u32) -> bool
-    ensures { result ≡ leb 255 len }
-{
-    if 255 <= len { true } else { false }
-}
-
-pub fn read_separator(s: &[u8], at: usize) -> Head
+// What stands where a separator may: one, or what ends the node there.
+pub fn read_separator(s: &[u8], at: usize) -> Result<Head, Ending>
     ensures { result ≡ head_at s.now at }
 {
     if !word::fits(s.len(), at, 9) {
-        return Head::Ended(Ending::ShortHead);
+        return Err(Ending::ShortHead);
     }
     let value = word::read_u64(s, at);
     let size = s[at + 8];
@@ -240,11 +179,10 @@ pub fn read_separator(s: &[u8], at: usize) -> Head
         return read_key(s, value, at + 9, size as usize, true);
     }
     if !word::fits(s.len(), at + 9, 4) {
-        return Head::Ended(Ending::ShortSize);
+        return Err(Ending::ShortSize);
     }
     let len = word::read_u32(s, at + 9);
-    let plain = is_long_size(len);
-    read_key(s, value, at + 13, len as usize, plain)
+    read_key(s, value, at + 13, len as usize, 255 <= len)
 }
 
 impl Places {
@@ -252,44 +190,30 @@ impl Places {
         ensures { result ≡ empty_places ending }
     {
         Places {
-            ending: ending,
+            ending,
             standard: true,
             count: 0,
             children: [Child(0); 9],
             values: [Value(0); 8],
-            starts: [0usize; 8],
-            lens: [0usize; 8],
+            starts: [0; 8],
+            lens: [0; 8],
         }
     }
 
-    fn ended(self, ending: Ending, count: usize) -> Places
+    // It writes into the places that it is given: a struct that takes the rest of them is a copy more.
+    fn ended(mut self, ending: Ending, count: usize) -> Places
         ensures { result ≡ ended_with self ending count }
     {
         if !ending.is_accepted() {
-            return Places {
-                ending: ending,
-                standard: false,
-                count: 0,
-                children: [Child(0); 9],
-                values: [Value(0); 8],
-                starts: [0usize; 8],
-                lens: [0usize; 8],
-            };
+            self = Places::empty(ending);
+            self.standard = false;
+            return self;
         }
-        let standard = both(self.standard, ending.is_no_byte_left());
-        let children = self.children;
-        let values = self.values;
-        let starts = self.starts;
-        let lens = self.lens;
-        Places {
-            ending: ending,
-            standard: standard,
-            count: count,
-            children: children,
-            values: values,
-            starts: starts,
-            lens: lens,
-        }
+        let standard = self.standard && ending.is_no_byte_left();
+        self.standard = standard;
+        self.ending = ending;
+        self.count = count;
+        self
     }
 
     // The one loop that decodes node bytes.
@@ -297,43 +221,31 @@ impl Places {
         ensures { result ≡ places_of s.now }
     {
         let mut places = Places::empty(Ending::NoByteLeft);
-        let mut at: usize = 0;
-        let mut i: usize = 0;
-        while i < 8 {
+        let mut at = 0;
+        for i in 0..8 {
             if !word::fits(s.len(), at, 8) {
                 return places.ended(Ending::ShortChild, i);
             }
-            let child = Child(word::read_u64(s, at));
-            places.children[i] = child;
+            places.children[i] = Child(word::read_u64(s, at));
             at += 8;
             if at == s.len() {
                 return places.ended(Ending::NoByteLeft, i);
             }
-            let head = read_separator(s, at);
-            match head {
-                Head::Ended(ending) => {
-                    return places.ended(ending, i);
-                }
-                Head::Separator {
-                    value,
-                    start,
-                    len,
-                    plain,
-                } => {
-                    places.values[i] = value;
-                    places.starts[i] = start;
-                    places.lens[i] = len;
-                    places.standard = both(places.standard, plain);
-                    at = start + len;
+            match read_separator(s, at) {
+                Err(ending) => return places.ended(ending, i),
+                Ok(head) => {
+                    places.values[i] = head.value;
+                    places.starts[i] = head.start;
+                    places.lens[i] = head.len;
+                    places.standard &= head.plain;
+                    at = head.start + head.len;
                 }
             }
-            i += 1;
         }
         if !word::fits(s.len(), at, 8) {
             return places.ended(Ending::ShortChild, 8);
         }
-        let child = Child(word::read_u64(s, at));
-        places.children[8] = child;
+        places.children[8] = Child(word::read_u64(s, at));
         if at + 8 == s.len() {
             return places.ended(Ending::NoByteLeft, 8);
         }
@@ -352,38 +264,29 @@ impl Places {
     }
 }
 
-// A part of the node bytes to a place of the keys, where both have the bytes; else nothing.
-fn put_key(keys: &mut [u8; 2304], at: usize, s: &[u8], start: usize, len: usize)
-    ensures { keys.new ≡ copy_at keys.old at s.now start len }
-{
-    word::copy(keys, at, s, start, len);
-}
-
 // The reading of the bytes whose places these are: their keys are copied.
 fn with_keys(s: &[u8], places: Places) -> Reading
     requires { places ≡ places_of s.now }
     ensures { result ≡ reading_of s.now }
 {
-    let count = places.count;
-    let children = places.children;
-    let values = places.values;
-    let lens = places.lens;
     let mut reading = Reading {
         ending: places.ending,
         node: Node {
-            count: count,
-            children: children,
-            values: values,
-            lens: lens,
-            keys: [0u8; 2304],
+            count: places.count,
+            children: places.children,
+            values: places.values,
+            lens: places.lens,
+            keys: [0; 2304],
         },
     };
-    let mut i: usize = 0;
-    while i < count {
-        let start = places.starts[i];
-        let len = places.lens[i];
-        put_key(&mut reading.node.keys, 288 * i, s, start, len);
-        i += 1;
+    for i in 0..places.count {
+        word::copy(
+            &mut reading.node.keys,
+            288 * i,
+            s,
+            places.starts[i],
+            places.lens[i],
+        );
     }
     reading
 }
@@ -395,11 +298,11 @@ pub fn read(s: &[u8]) -> Reading
     with_keys(s, places)
 }
 
-// The key of a separator, as a part of the node bytes; empty where there is none.
-pub fn key(s: &[u8], index: Index) -> &[u8]
+// The key of a separator, as a part of the bytes whose places these are; empty where there is none.
+fn key_in(s: &[u8], places: Places, index: Index) -> &[u8]
+    requires { places ≡ places_of s.now }
     ensures { result.now ≡ part s.now (key_place s.now index.0).start (key_place s.now index.0).len }
 {
-    let places = Places::read(s);
     let i = index.0;
     if i < places.count {
         let start = places.starts[i];
@@ -407,6 +310,13 @@ pub fn key(s: &[u8], index: Index) -> &[u8]
         return &s[start..end];
     }
     &s[0..0]
+}
+
+// The key of a separator, as a part of the node bytes; empty where there is none.
+pub fn key(s: &[u8], index: Index) -> &[u8]
+    ensures { result.now ≡ part s.now (key_place s.now index.0).start (key_place s.now index.0).len }
+{
+    key_in(s, Places::read(s), index)
 }
 
 // ---- the strict reading
@@ -418,67 +328,60 @@ fn is_low(s: &[u8], at: usize) -> bool
     if !word::fits(s.len(), at, 13) {
         return false;
     }
-    if s[at + 8] < 255 {
-        return false;
-    }
-    !is_long_size(word::read_u32(s, at + 9))
+    255 <= s[at + 8] && word::read_u32(s, at + 9) < 255
 }
 
 fn ends_at(s: &[u8], at: usize, ending: Ending) -> Strict
     ensures { result ≡ ends_at s.now at ending }
 {
-    if ending.end_number() == 19 {
-        if is_low(s, at) {
-            return Strict::LowSize;
+    match ending {
+        Ending::ZeroValue => {
+            if is_low(s, at) {
+                Strict::LowSize
+            } else {
+                Strict::EndsIn(ending)
+            }
         }
+        _ => Strict::EndsIn(ending),
     }
-    Strict::EndsIn(ending)
 }
 
 // How a strict reading ends, and where; it builds no places.
 pub fn strict_end(s: &[u8]) -> Stopped
     ensures { result ≡ strict_end s.now }
 {
-    let mut at: usize = 0;
-    let mut i: usize = 0;
-    while i < 8 {
+    let mut at = 0;
+    for _ in 0..8usize {
         if !word::fits(s.len(), at, 8) {
             return Stopped {
                 ending: Strict::EndsIn(Ending::ShortChild),
-                at: at,
+                at,
             };
         }
         at += 8;
         if at == s.len() {
             return Stopped {
                 ending: Strict::EndsIn(Ending::NoByteLeft),
-                at: at,
+                at,
             };
         }
-        let head = read_separator(s, at);
-        match head {
-            Head::Ended(ending) => {
+        match read_separator(s, at) {
+            Err(ending) => {
                 return Stopped {
                     ending: ends_at(s, at, ending),
-                    at: at,
+                    at,
                 };
             }
-            Head::Separator {
-                value,
-                start,
-                len,
-                plain,
-            } => {
-                if !plain {
+            Ok(head) => {
+                if !head.plain {
                     return Stopped {
                         ending: Strict::LowSize,
-                        at: at,
+                        at,
                     };
                 }
-                at = start + len;
+                at = head.start + head.len;
             }
         }
-        i += 1;
     }
     last_child(s, at)
 }
@@ -490,7 +393,7 @@ fn last_child(s: &[u8], at: usize) -> Stopped
     if !word::fits(s.len(), at, 8) {
         return Stopped {
             ending: Strict::EndsIn(Ending::ShortChild),
-            at: at,
+            at,
         };
     }
     let end = at + 8;
@@ -506,7 +409,8 @@ fn last_child(s: &[u8], at: usize) -> Stopped
     }
 }
 
-// The reading of bytes in standard form; of others that of no bytes, which is refused.
+// The reading of bytes in standard form; of others that of no bytes, which is refused. Not over Places::read_standard, whose places
+// are then not those of s.
 pub fn read_standard(s: &[u8]) -> Reading
     ensures { result ≡ reading_of (standard_of s.now) }
 {
@@ -521,13 +425,10 @@ pub fn read_strict(s: &[u8]) -> StrictReading
     ensures { result ≡ strict_reading s.now }
 {
     let stopped = strict_end(s);
-    let ending = stopped.ending;
-    let reading = read_standard(s);
-    let node = reading.node;
     StrictReading {
-        ending: ending,
+        ending: stopped.ending,
         at: stopped.at,
-        node: node,
+        node: read_standard(s).node,
     }
 }
 
@@ -539,7 +440,7 @@ pub fn key_strict(s: &[u8], index: Index) -> &[u8]
     if !places.standard {
         return &s[0..0];
     }
-    key(s, index)
+    key_in(s, places, index)
 }
 
 // How many bytes a separator with a key of len bytes takes.
@@ -550,59 +451,37 @@ fn sep_length(len: u16) -> usize
     if len < 255 { 9 + len } else { 13 + len }
 }
 
-fn any_long(count: usize, lens: [usize; 8]) -> bool
-    ensures { result ≡ any_first is_long count lens }
+// `any` of two types: within `measure` the proof of neither chain closes.
+fn any_long(lens: &[usize]) -> bool
+    ensures { result ≡ any_of is_long lens.now }
 {
-    let mut i: usize = 0;
-    while i < 8 {
-        if count <= i {
-            return false;
-        }
-        if 288 < lens[i] {
-            return true;
-        }
-        i += 1;
-    }
-    false
+    lens.iter().any(|len| 288 < *len)
 }
 
-fn any_zero(count: usize, values: [Value; 8]) -> bool
-    ensures { result ≡ any_first is_none count values }
+fn any_zero(values: &[Value]) -> bool
+    ensures { result ≡ any_of is_none values.now }
 {
-    let mut i: usize = 0;
-    while i < 8 {
-        if count <= i {
-            return false;
-        }
-        let value = values[i];
-        if value.0 == 0 {
-            return true;
-        }
-        i += 1;
-    }
-    false
+    values.iter().any(|value| value.0 == 0)
 }
 
 // The refusals that don't ask for the destination, or the length of standard form.
-fn measure(count: usize, lens: [usize; 8], values: [Value; 8]) -> Written
-    ensures { result ≡ measured count lens values }
+fn measure(node: &Node) -> Result<usize, WriteError>
+    ensures { result ≡ measured node.now.count node.now.lens node.now.values }
 {
-    if 8 < count {
-        return Written::TooMany;
+    if 8 < node.count {
+        return Err(WriteError::TooMany);
     }
-    if any_long(count, lens) {
-        return Written::LongKey;
+    if any_long(&node.lens[..node.count]) {
+        return Err(WriteError::LongKey);
     }
-    if any_zero(count, values) {
-        return Written::NoValue;
+    if any_zero(&node.values[..node.count]) {
+        return Err(WriteError::NoValue);
     }
-    let mut len: usize = 8;
-    let mut i: usize = 0;
-    while i < count {
-        len += sep_length(lens[i] as u16) + 8;
-        i += 1;
+    let mut len = 8;
+    for i in 0..node.count {
+        len += sep_length(node.lens[i] as u16) + 8;
     }
-    Written::Done(len)
+    Ok(len)
 }
 
 // A separator at a place, its key being a part of the keys, where it is not too long and the destination has the bytes; else nothing.
@@ -628,7 +507,7 @@ fn write_separator(dst: &mut [u8], at: usize, keys: &[u8], from: usize, len: usi
 }
 
 // A separator and the child right of it put in at a place among the len bytes in front of dst, those behind the place moved
-// up: the new length. Nothing is done, and it is 0, where the key is too long, dst too short or the place not among them.
+// up: the new length. Nothing is done, and there is none, where the key is too long, dst too short or the place not among them.
 pub fn splice(
     dst: &mut [u8],
     len: usize,
@@ -636,53 +515,42 @@ pub fn splice(
     key: &[u8],
     value: Value,
     child: Child,
-) -> usize
-    ensures { (result ≡ (splice_in dst.old len at (record { key = key.now; val = value.0 }) child.0).len) × (dst.new ≡ (splice_in dst.old len at (record { key = key.now; val = value.0 }) child.0).bytes) }
+) -> Option<usize>
+    ensures { (result ≡ new_length (splice_in dst.old len at (record { key = key.now; val = value.0 }) child.0)) × (dst.new ≡ (splice_in dst.old len at (record { key = key.now; val = value.0 }) child.0).bytes) }
 {
     let size = key.len();
     if 288 < size {
-        return 0;
+        return None;
     }
     let width = sep_length(size as u16);
     let more = width + 8;
     if !word::fits(dst.len(), len, more) {
-        return 0;
+        return None;
     }
     if len < at {
-        return 0;
+        return None;
     }
     word::move_up(dst, at, len - at, more);
     write_separator(dst, at, key, 0, size, value);
     word::write_u64(dst, at + width, child.0);
-    len + more
+    Some(len + more)
 }
 
-pub fn write(node: Node, dst: &mut [u8]) -> Written
+// A node in standard form to the front of the destination: its length.
+pub fn write(node: Node, dst: &mut [u8]) -> Result<usize, WriteError>
     ensures { (result ≡ written_of node dst.old) × (dst.new ≡ left_by (written_of node dst.old) node dst.old) }
 {
-    let count = node.count;
-    let lens = node.lens;
-    let values = node.values;
-    let measured = measure(count, lens, values);
-    let len = measured.length();
-    if len == 0 {
-        return measured;
-    }
+    let len = measure(&node)?;
     if dst.len() < len {
-        return Written::ShortDestination;
+        return Err(WriteError::ShortDestination);
     }
-    let first = node.children[0];
-    word::write_u64(dst, 0, first.0);
-    let mut at: usize = 8;
-    let mut i: usize = 0;
-    while i < count {
-        let value = values[i];
-        write_separator(dst, at, &node.keys, 288 * i, lens[i], value);
-        at += sep_length(lens[i] as u16);
-        i += 1;
-        let child = node.children[i];
-        word::write_u64(dst, at, child.0);
+    word::write_u64(dst, 0, node.children[0].0);
+    let mut at = 8;
+    for i in 0..node.count {
+        write_separator(dst, at, &node.keys, 288 * i, node.lens[i], node.values[i]);
+        at += sep_length(node.lens[i] as u16);
+        word::write_u64(dst, at, node.children[i + 1].0);
         at += 8;
     }
-    measured
+    Ok(len)
 }

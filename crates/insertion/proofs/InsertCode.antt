@@ -4,6 +4,7 @@ use mathlib.Core.Path.{◌≡◌, refl, sym, ap, subst, ◌∙◌}
 use mathlib.Core.List.{List, [], ◌∷◌}
 use mathlib.Core.Bool.{true, false, cond, not}
 use mathlib.Core.Option.{none, some}
+use Rattle.std.specs.Prelude.{Result, Ok, Err}
 use Prim.Native.Nat.{ℕ, suc, ◌+◌, ◌-◌, ◌^◌, ◌≤◌, ◌<◌}
 use lib.ListN.{length, take, drop, length-take, length-drop}
 use lib.Seq.{drop-cons}
@@ -16,6 +17,7 @@ use Rattle.tree.specs.Tree.{Node, at, below}
 use Rattle.node.specs.declared.Child.{Child}
 use Rattle.node.specs.declared.Node as struct
 use Rattle.node.specs.declared.Separator.{Separator}
+use Rattle.node.specs.declared.Slot.{Slot}
 use Rattle.node.specs.declared.edit.Halves.{Halves}
 use Rattle.node.specs.Chain.{Step, Fit, FitAll, Writable, child_of, node_of}
 use Rattle.node.specs.Edit.{separator_of, inserted, insert_at, child_at, step_at, parted, halves, halves_from}
@@ -28,18 +30,15 @@ use Rattle.slots.specs.Layout.{root_of, depth_of}
 use Rattle.slots.specs.Mirror.{write_node, take_slot, set_root}
 use Rattle.slots.specs.Code.{rest_in, node_in, read_node_at, written_in}
 use Rattle.slots.proofs.CodeLaws.{written_chain}
-use Rattle.outcome.specs.declared.Came as code
-use Rattle.outcome.specs.declared.Came.TheVariants.{Bad, Plain, Split, Low}
-use Rattle.outcome.specs.declared.Outcome.{Outcome}
-use Rattle.outcome.specs.declared.Needed.{Needed}
-use Rattle.outcome.specs.declared.Needed.TheVariants as needed
+use Rattle.outcome.specs.declared.Came.TheVariants.{Plain, Split, Low}
+use Rattle.outcome.specs.declared.BadBytes.{BadBytes}
 use Rattle.search.specs.declared.Turn.TheVariants.{NotBelow}
 use Rattle.search.specs.declared.Sight.{Sight}
 use Rattle.slots.specs.Search.{SawAt}
 use Rattle.outcome.specs.Mirror as M
 use Rattle.outcome.specs.Mirror.{in_two, split_m, place_m, inserted_at, grow_m}
 use Rattle.outcome.specs.RunMirror.{need_m, whole_m, slots_needed_m, start_m}
-use Rattle.outcome.specs.Outcome.{outcome_with, outcome_of, of_came, of_need, FitCame, Makes}
+use Rattle.outcome.specs.Outcome.{Outcome, refused, of_came, of_need, FitCame, Makes}
 use Rattle.outcome.proofs.ReadSight.{sight_refused, sight_read, sight_count, sight_at_lem, sight_child}
 
 short : (r : List Step) → FitAll r → Short r
@@ -105,14 +104,13 @@ SplitsTo s x node i sep child r t =
 
 module _ (s : List ℕ) (x : ℕ) (node : struct.Node) (i : ℕ) (sep : Separator) (child : Child) {both : Halves} {right : ℕ} {t : List ℕ}
     (cut : both ≡ split_node_at node i sep child) (took : right ≡ (take_slot s).slot) (left : t ≡ (take_slot s).store) where
-  pub split_1 : {r : Outcome} → right ≡ 0 → r ≡ outcome_of Bad → SplitsTo s x node i sep child r t
-  split_1 h p c q e n w full there k f =
+  pub split_1 : right ≡ 0 → SplitsTo s x node i sep child refused t
+  split_1 h c q e n w full there k f =
       let z : eqb (take_slot s).slot 0 ≡ true = eq-eqb _ _ (sym took ∙ h) in
-      rw (placed_lem s x i child c q e w full there f, z) (p, left, tt)
+      rw (placed_lem s x i child c q e w full there f, z) (refl, left, tt)
 
   pub split_2 : {u v : List ℕ} → child.0 < 2 ^ 64 → (right ≡ 0 → ⊥) → u ≡ written_in t x both.left → v ≡ written_in u right both.right
-      → SplitsTo s x node i sep child (record { came = Split; right = record { 0 = right }; separator = both.middle }) v
-  unfolding outcome_with
+      → SplitsTo s x node i sep child (Ok (Split (record { 0 = right }) both.middle)) v
   split_2 {u} {v} small h a b c q e n w full there k f =
       let l : List Step = insert_at i (e, child.0) q in
       let z : eqb (take_slot s).slot 0 ≡ false = ne_eqb _ _ (λ y. h (took ∙ y)) in
@@ -137,61 +135,55 @@ one_node old b e f =
     ∙ node_insert old.0 [] (omega arith) tt 0 (e, b) f.short (omega arith) (omega arith)
 
 module _ (s : List ℕ) (old : Child) (d : ℕ) (sep : Separator) (b : ℕ) where
-  pub root_1 : {r : Outcome} → 6 < d → r ≡ outcome_of Bad → GrowsTo s old.0 d sep b r s
-  root_1 h p e k f = let z : leb most_depth d ≡ true = le-leb most_depth d (omega arith) in rw z (p, refl, tt)
+  pub root_1 : 6 < d → GrowsTo s old.0 d sep b refused s
+  root_1 h e k f = let z : leb most_depth d ≡ true = le-leb most_depth d (omega arith) in rw z (refl, refl, tt)
 
   module _ (low : d ≤ 6) {slot : ℕ} {t : List ℕ} (took : slot ≡ (take_slot s).slot) (left : t ≡ (take_slot s).store) where
     room : leb most_depth d ≡ false
     room = lt-leb most_depth d (omega arith)
 
-    pub root_2 : {r : Outcome} → slot ≡ 0 → r ≡ outcome_of Bad → GrowsTo s old.0 d sep b r t
-    root_2 h p e k f =
+    pub root_2 : slot ≡ 0 → GrowsTo s old.0 d sep b refused t
+    root_2 h e k f =
         let z : eqb (take_slot s).slot 0 ≡ true = eq-eqb (take_slot s).slot 0 (sym took ∙ h) in
-        rw (room, z) (p, left, tt)
+        rw (room, z) (refl, left, tt)
 
-    pub root_3 : {n m o : struct.Node} {u v : List ℕ} {r : Outcome} → old.0 < 2 ^ 64 → b < 2 ^ 64 → (slot ≡ 0 → ⊥) → n ≡ node_of 0 [] → m ≡ with_child n 0 old → o ≡ structs.inserted_at m 0 sep (child_of b)
-        → u ≡ written_in t slot o → v ≡ set_root u slot (d + 1) → r ≡ outcome_of Plain → GrowsTo s old.0 d sep b r v
-    root_3 {n} {m} {o} {u} {v} os bs h pn pm po wrote set out e k f =
+    pub root_3 : {n m o : struct.Node} {u v : List ℕ} → old.0 < 2 ^ 64 → b < 2 ^ 64 → (slot ≡ 0 → ⊥) → n ≡ node_of 0 [] → m ≡ with_child n 0 old → o ≡ structs.inserted_at m 0 sep (child_of b)
+        → u ≡ written_in t slot o → v ≡ set_root u slot (d + 1) → GrowsTo s old.0 d sep b (Ok Plain) v
+    root_3 {n} {m} {o} {u} {v} os bs h pn pm po wrote set e k f =
         let z : eqb (take_slot s).slot 0 ≡ false = ne_eqb (take_slot s).slot 0 (λ y. h (took ∙ y)) in
         let made : o ≡ node_of old.0 ((e, b) ∷ []) = po ∙ rw (pm, pn, k) (one_node old b e f) in
         let fine : Writable old.0 ((e, b) ∷ []) = record { first = os; rest = (f, bs, tt); most = omega arith } in
         let written : u ≡ write_node (take_slot s).store (record { slot = (take_slot s).slot; first = old.0; rest = (e, b) ∷ [] }) = wrote ∙ rw (left, took, made) (written_chain (take_slot s).store (take_slot s).slot old.0 ((e, b) ∷ []) fine) in
         let one : d + 1 ≡ suc d = omega arith in
-        rw (room, z) (out, set ∙ rw (written, took, one), tt)
+        rw (room, z) (refl, set ∙ rw (written, took, one), tt)
 
 -- the arms of `grow`
 module _ (s : List ℕ) (old d : ℕ) (o : Outcome) where
   abbrev Grows : Outcome → List ℕ → Type 0
   Grows r t = (g : M.Came) → o ≡ of_came g → FitCame g → Makes (grow_m old d s g) r t
 
-  came_of_lem : {y : code.Came} → o.came ≡ y → (g : M.Came) → o ≡ of_came g → y ≡ (of_came g).came
-  came_of_lem h g e = sym h ∙ ap (λ (q : Outcome). q.came) e
+  pub grow_bad : (e : BadBytes) → o ≡ Err e → Grows refused s
+  grow_bad b h M.bad e f = (refl, refl, tt)
+  grow_bad b h M.plain e f = absurd cc
+  grow_bad b h (M.split y a) e f = absurd cc
 
-  pub grow_1 : {r : Outcome} → o.came ≡ Bad → r ≡ outcome_of Bad → Grows r s
-  unfolding outcome_with
-  grow_1 h p M.bad e f = (p, refl, tt)
-  grow_1 h p M.plain e f = let z : ◌≡◌ {A = ℕ} 0 1 = cc (came_of_lem h M.plain e) in absurd (omega arith)
-  grow_1 h p (M.split y b) e f = let z : ◌≡◌ {A = ℕ} 0 1 = cc (came_of_lem h (M.split y b) e) in absurd (omega arith)
+  pub grow_1 : o ≡ Ok Plain → Grows (Ok Plain) s
+  grow_1 h M.bad e f = absurd cc
+  grow_1 h M.plain e f = (refl, refl, tt)
+  grow_1 h (M.split y b) e f = absurd cc
 
-  pub grow_2 : {r : Outcome} → o.came ≡ Plain → r ≡ outcome_of Plain → Grows r s
-  unfolding outcome_with
-  grow_2 h p M.bad e f = let z : ◌≡◌ {A = ℕ} 0 1 = cc (came_of_lem h M.bad e) in absurd (omega arith)
-  grow_2 h p M.plain e f = (p, refl, tt)
-  grow_2 h p (M.split y b) e f = let z : ◌≡◌ {A = ℕ} 0 1 = cc (came_of_lem h (M.split y b) e) in absurd (omega arith)
-
-  pub grow_3 : {r : Outcome} {t : List ℕ} → o.came ≡ Split → GrowsTo s old d o.separator o.right.0 r t → Grows r t
-  unfolding outcome_with
-  grow_3 h made M.bad e f = let z : ◌≡◌ {A = ℕ} 0 1 = cc (came_of_lem h M.bad e) in absurd (omega arith)
-  grow_3 h made M.plain e f = let z : ◌≡◌ {A = ℕ} 0 1 = cc (came_of_lem h M.plain e) in absurd (omega arith)
-  grow_3 {r} {t} h made (M.split y b) e f =
-      subst (λ (c : ℕ). Makes (grow_m old d s (M.split y c)) r t) (ap (λ (q : Outcome). q.right.0) e) (made y (ap (λ (q : Outcome). q.separator) e) f)
+  pub grow_2 : {right : Slot} {sep : Separator} {r : Outcome} {t : List ℕ} → o ≡ Ok (Split right sep) → GrowsTo s old d sep right.0 r t → Grows r t
+  grow_2 h made M.bad e f = absurd cc
+  grow_2 h made M.plain e f = absurd cc
+  grow_2 {right} {sep} {r} {t} h made (M.split y b) e f =
+      let at : right ≡ record { 0 = b } = cc in
+      subst (λ (c : ℕ). Makes (grow_m old d s (M.split y c)) r t) (ap (λ (q : Slot). q.0) at) (made y (cc) f)
 
   -- no set comes back low
-  pub grow_4 : {r : Outcome} → o.came ≡ Low → Grows r s
-  unfolding outcome_with
-  grow_4 h M.bad e f = let z : ◌≡◌ {A = ℕ} 0 1 = cc (came_of_lem h M.bad e) in absurd (omega arith)
-  grow_4 h M.plain e f = let z : ◌≡◌ {A = ℕ} 0 1 = cc (came_of_lem h M.plain e) in absurd (omega arith)
-  grow_4 h (M.split y b) e f = let z : ◌≡◌ {A = ℕ} 0 1 = cc (came_of_lem h (M.split y b) e) in absurd (omega arith)
+  pub grow_3 : o ≡ Ok Low → Grows refused s
+  grow_3 h M.bad e f = absurd cc
+  grow_3 h M.plain e f = absurd cc
+  grow_3 h (M.split y b) e f = absurd cc
 
 -- ---- the empty root
 
@@ -254,23 +246,20 @@ pub need_start : (s : List ℕ) (k : Key) {top x : ℕ} → top ≡ depth_of s �
 unfolding NeedLeft slots_needed_m
 need_start s k {top} e f = let one : top + 1 ≡ suc top = omega arith in rw (one, e, f)
 
-abbrev NeedsTo : List ℕ → Key → Needed → Type 0
+abbrev NeedsTo : List ℕ → Key → Result ℕ BadBytes → Type 0
 NeedsTo s k r = depth_of s ≤ most_depth → r ≡ of_need (slots_needed_m s k)
-
-pub needed_deep : (s : List ℕ) (k : Key) {top : ℕ} {r : Needed} → top ≡ depth_of s → 7 < top → NeedsTo s k r
-needed_deep s k e h g = absurd (omega arith)
 
 module _ (s : List ℕ) (k : Key) (top left x run : ℕ) (so_far : NeedLeft s k top left x run) where
   module _ (more : 0 < left) {v : Sight} (saw : SawAt NotBelow (left - 1) s x k v) where
     down : left ≡ suc (left - 1)
     down = omega arith
 
-    pub needed_refused : not v.good ≡ true → NeedsTo s k needed.Bad
+    pub needed_refused : not v.good ≡ true → NeedsTo s k refused
     unfolding NeedLeft
     needed_refused h g = sym (ap of_need (so_far ∙ ap (λ (n : ℕ). whole_m (suc top) (need_m k n s x run)) down ∙ ap (whole_m (suc top)) (need_bad s k (left - 1) x run saw h)))
 
     module _ (good : not v.good ≡ false) where
-      pub needed_found : v.found.at ≡ true → NeedsTo s k (needed.Slots 0)
+      pub needed_found : v.found.at ≡ true → NeedsTo s k (Ok 0)
       unfolding NeedLeft
       needed_found h g = sym (ap of_need (so_far ∙ ap (λ (n : ℕ). whole_m (suc top) (need_m k n s x run)) down ∙ ap (whole_m (suc top)) (need_here_lem s k (left - 1) x run saw good h) ∙ none_whole))
         where
@@ -291,11 +280,11 @@ module _ (s : List ℕ) (k : Key) (top left x run : ℕ) (so_far : NeedLeft s k 
     unfolding NeedLeft
     ended = let z : left ≡ 0 = omega arith in so_far ∙ ap (λ (n : ℕ). whole_m (suc top) (need_m k n s x run)) z
 
-    pub needed_whole : run ≡ top + 1 → NeedsTo s k (needed.Slots (run + 1))
+    pub needed_whole : run ≡ top + 1 → NeedsTo s k (Ok (run + 1))
     needed_whole h g =
         let z : eqb run (suc top) ≡ true = eq-eqb run (suc top) (omega arith) in
         let one : run + 1 ≡ suc run = omega arith in
         rw (ended, z, one)
 
-    pub needed_part : (run ≡ top + 1 → ⊥) → NeedsTo s k (needed.Slots run)
+    pub needed_part : (run ≡ top + 1 → ⊥) → NeedsTo s k (Ok run)
     needed_part h g = let z : eqb run (suc top) ≡ false = ne_eqb run (suc top) (λ y. h (omega arith)) in rw (ended, z)

@@ -4,12 +4,14 @@ use mathlib.Core.Path.{◌≡◌, refl, sym, ap, subst, ◌∙◌}
 use mathlib.Core.List.{List, ◌∷◌, ◌++◌}
 use mathlib.Core.Bool.{Bool, true, false, ◌&&◌, not}
 use mathlib.Core.Option.{none, some}
+use Rattle.std.specs.Prelude as std
+use Rattle.std.specs.Prelude.{None, Ok}
 use Prim.Native.Nat.{ℕ, zero, suc, ◌+◌, ◌-◌, ◌^◌, ◌≤◌, ◌<◌}
 use lib.ListN.{length, take, drop, get_or}
 use lib.Seq.{take_all, drop-cons}
 use lib.Dec.{leb, ltb}
 use native.Mathlib.Omega.{arith}
-use borrow.Author.Tests.{not-true, not-false, le-leb, lt-leb, leb-true, lt-ltb, le-ltb, ltb-true, ltb-false}
+use borrow.Author.Tests.{not-true, not-false, le-leb, leb-true, ltb-true, ltb-false}
 use Rattle.word.specs.Pick.{by_test}
 use Rattle.word.specs.Num.{Bytes}
 use Rattle.word.proofs.PartLaws.{length_part_cut}
@@ -20,6 +22,7 @@ use Rattle.node.specs.declared.Node as struct
 use Rattle.codec.specs.declared.Places.{Places}
 use Rattle.codec.specs.declared.Reading.{Reading}
 use Rattle.node.specs.declared.Separator.{Separator}
+use Rattle.node.specs.declared.Slot.{Slot}
 use Rattle.node.specs.declared.Value.{Value}
 use Rattle.node.specs.Chain.{Step, longest_key, Fit, FitAll, Writable, padded, node_of}
 use Rattle.codec.specs.Codec.{is_accepted}
@@ -32,14 +35,13 @@ use Rattle.node.proofs.EditLaws.{length_more, fit_drop, fit_insert}
 use Rattle.slots.specs.Limits.{least_node, most_node}
 use Rattle.slots.specs.Layout.{start}
 use Rattle.slots.specs.Mirror.{is_slot, length_at, node_bytes, holds_node, write_node}
-use Rattle.slots.specs.Code.{slot_of, raw_in, bytes_in, places_in, reading_in, reading_at, first_in, rest_in, node_in, fits_depth, places_at, read_node_at}
+use Rattle.slots.specs.Code.{slot_of, some_slot, raw_in, bytes_in, places_in, reading_in, reading_at, first_in, rest_in, node_in, fits_depth, places_at, read_node_at}
 use Rattle.slots.specs.Splice.{inserted_bytes, revalued_bytes}
-use Rattle.slots.proofs.CodeLaws.{both_true, no_places, node_in_lem, agree_in, writable_in, accepted_holds, accepted_standard, accepted_slot, accepted_at, refused_at, ending_at}
+use Rattle.slots.proofs.CodeLaws.{both_true, no_places, node_in_lem, agree_in, writable_in, accepted_holds, accepted_standard, accepted_slot, accepted_some, accepted_at, refused_at, ending_at}
 use Rattle.slots.proofs.SpliceLaws.{inserts_node, revalues_node}
-use Rattle.outcome.specs.declared.Came.TheVariants.{Bad, Plain}
-use Rattle.outcome.specs.declared.Outcome.{Outcome}
+use Rattle.outcome.specs.declared.Came.TheVariants.{Plain}
 use Rattle.outcome.specs.Mirror.{bad, place_m, inserted_at, insert_node_m, set_value_m}
-use Rattle.outcome.specs.Outcome.{outcome_of, Makes}
+use Rattle.outcome.specs.Outcome.{Outcome, refused, Makes}
 use Rattle.insertion.specs.Insertion.{is_node_of, takes_at, has_at, EndWithin, SplitsFull, TakesIn}
 use Rattle.outcome.proofs.ReadPlaces.{count_of_lem}
 use Rattle.insertion.proofs.InsertCode.{SplitsTo}
@@ -84,54 +86,23 @@ pub place_next : (p : Places) (i : ℕ) → (i ≡ 0 → ⊥) → get_or p.start
 place_next p zero h = absurd (h refl)
 place_next p (suc j) h = let z : suc j - 1 ≡ j = omega arith in rw z
 
--- ---- `is_node`, `takes`, `has_separator`
+-- ---- what `takes` and `has_separator` tell
 
 module _ (p : Places) (d : ℕ) where
-  module _ {b : Bool} (fits : b ≡ fits_depth d p.count p.children) where
-    pub node_1 : not b ≡ true → false ≡ is_node_of d p
-    unfolding is_node_of
-    node_1 h = rw (sym fits ∙ not-true b h)
-
-    pub node_2 : {a : Bool} → not b ≡ false → a ≡ is_accepted p.ending → a ≡ is_node_of d p
-    unfolding is_node_of
-    node_2 h e = rw (sym fits ∙ not-false b h) e
-
   module _ (i n : ℕ) where
-    pub takes_1 : p.count < i → false ≡ takes_at p d i n
-    unfolding takes_at
-    takes_1 l = rw (lt-leb i p.count l)
-
-    pub takes_2 : i ≤ p.count → 288 < n → false ≡ takes_at p d i n
-    unfolding takes_at
-    takes_2 l m = rw (le-leb i p.count l, lt-leb n longest_key m)
-
-    pub takes_3 : {b : Bool} → i ≤ p.count → n ≤ 288 → b ≡ is_node_of d p → b ≡ takes_at p d i n
-    unfolding takes_at
-    takes_3 l m e = rw (le-leb i p.count l, le-leb n longest_key m) e
-
     record Takes : Type 0 where
       within : i ≤ p.count
       short : n ≤ 288
       node : is_node_of d p ≡ true
 
     takes : takes_at p d i n ≡ true → Takes
-    unfolding takes_at
     takes h =
         let y = both_true (leb i p.count) (leb n longest_key && is_node_of d p) h in
         let z = both_true (leb n longest_key) (is_node_of d p) y.1 in
         record { within = leb-true i p.count y.0; short = leb-true n longest_key z.0; node = z.1 }
 
   module _ (i : ℕ) where
-    pub has_1 : p.count ≤ i → false ≡ has_at p d i
-    unfolding has_at
-    has_1 l = rw (le-ltb i p.count l)
-
-    pub has_2 : {b : Bool} → i < p.count → b ≡ is_node_of d p → b ≡ has_at p d i
-    unfolding has_at
-    has_2 l e = rw (lt-ltb i p.count l) e
-
     has_lem : has_at p d i ≡ true → (i < p.count) × (is_node_of d p ≡ true)
-    unfolding has_at
     has_lem h = let y = both_true (ltb i p.count) (is_node_of d p) h in (ltb-true i p.count y.0, y.1)
 
 and_true : (a : Bool) → (a && true) ≡ a
@@ -143,7 +114,7 @@ and_true false = refl
 module _ (s : List ℕ) (x d : ℕ) {p : Places} (read : p ≡ places_in s x) where
   -- the test passes what is read at this depth
   node_read : is_node_of d p ≡ is_accepted (reading_at d s x).ending
-  unfolding is_node_of places_at layout
+  unfolding places_at layout
   node_read =
       ap (is_node_of d) read
       ∙ by_test (λ (q : Places). is_node_of d (places_in s x) ≡ is_accepted q.ending) (fits_depth d (places_in s x).count (places_in s x).children)
@@ -175,6 +146,10 @@ module _ (s : List ℕ) (x d : ℕ) {p : Places} (read : p ≡ places_in s x) wh
 -- ---- `split_full`
 
 module _ (s : List ℕ) (x i : ℕ) (e : Sep ℕ) (right : Child) where
+  -- a node that was read stands in a slot
+  pub split_none : {o : std.Option Slot} {r : Outcome} {t : List ℕ} → o ≡ some_slot (slot_of s x) → o ≡ None → SplitsFull s x i e right.0 r t
+  split_none slot gone accepted full within fit = absurd (accepted_some s x accepted slot gone)
+
   pub split_full : {g : Reading} {y : ℕ} {sep : Separator} {r : Outcome} {t : List ℕ} → Bytes s → g ≡ reading_in s x → y ≡ slot_of s x
       → sep ≡ separator_of (record { key = take 288 e.key; val = e.val }) → SplitsTo s y g.node i sep right r t → SplitsFull s x i e right.0 r t
   split_full {g} {y} {sep} {r} {t} small read slot made split accepted full within fit =
@@ -190,9 +165,12 @@ module _ (s : List ℕ) (x n i place : ℕ) (e : Sep ℕ) (right : Child) where
   pub take_1 : {r : Outcome} {t : List ℕ} → 7 < n → SplitsFull s x i e right.0 r t → TakesIn s x n i place e right.0 r t
   take_1 full split accepted count within begins fit = split accepted (omega arith) within fit
 
-  pub take_2 : {v : ℕ} {r : Outcome} {t : List ℕ} → Bytes s → right.0 < 2 ^ 64 → n ≤ 7 → v ≡ slot_of s x → t ≡ inserted_bytes s v place e right.0 → r ≡ outcome_of Plain → TakesIn s x n i place e right.0 r t
+  pub take_none : {o : std.Option Slot} {r : Outcome} {t : List ℕ} → o ≡ some_slot (slot_of s x) → o ≡ None → TakesIn s x n i place e right.0 r t
+  take_none slot gone accepted count within begins fit = absurd (accepted_some s x accepted slot gone)
+
+  pub take_2 : {v : ℕ} {t : List ℕ} → Bytes s → right.0 < 2 ^ 64 → n ≤ 7 → v ≡ slot_of s x → t ≡ inserted_bytes s v place e right.0 → TakesIn s x n i place e right.0 (Ok Plain) t
   unfolding place_m inserted
-  take_2 {v} {r} {t} small bs few slot wrote out accepted count within begins fit =
+  take_2 {v} {t} small bs few slot wrote accepted count within begins fit =
       let w = writable_in s x small in
       let q : List Step = rest_in s x in
       let c : ℕ = first_in s x in
@@ -202,13 +180,13 @@ module _ (s : List ℕ) (x n i place : ℕ) (e : Sep ℕ) (right : Child) where
       let node = inserts_node s x i e right.0 small (accepted_holds s x accepted) (accepted_standard s x accepted) within fit fine in
       let written : t ≡ write_node s (inserted_at i e right.0 (node_in s x)) =
       wrote ∙ ap (λ (y : ℕ). inserted_bytes s y place e right.0) (slot ∙ (accepted_slot s x accepted).1) ∙ ap (λ (y : ℕ). inserted_bytes s x y e right.0) begins ∙ node in
-      rw z (out, written, tt)
+      rw z (refl, written, tt)
 
 -- ---- a key of n bytes for index i
 
 module _ (s : List ℕ) (x d i n : ℕ) {p : Places} {b : Bool} (read : p ≡ places_in s x) (test : b ≡ takes_at p d i n) where
   not_taken : not b ≡ true → n ≤ longest_key → (e : Sep ℕ) (c : ℕ) → insert_node_m d s x i e c ≡ record { out = bad; store = s }
-  unfolding insert_node_m takes_at
+  unfolding insert_node_m
   not_taken out_of_lem short e c =
       by_bool (is_node_of d p)
       (λ h.
@@ -219,9 +197,6 @@ module _ (s : List ℕ) (x d i n : ℕ) {p : Places} {b : Bool} (read : p ≡ pl
   module _ (passed : not b ≡ false) where
     taken_lem : Takes p d i n
     taken_lem = takes p d i n (sym test ∙ not-false b passed)
-
-    pub key_fits : n ≤ 288
-    key_fits = taken_lem.short
 
     pub place_fits : (i ≤ 8) × EndWithin p
     place_fits = place_there s x d read i taken_lem.within
@@ -240,10 +215,10 @@ module _ (s : List ℕ) (x d i : ℕ) (sep : Separator) (right : Child) {p : Pla
   abbrev InsertsTo : Outcome → List ℕ → Type 0
   InsertsTo r t = (e : Sep ℕ) → sep ≡ separator_of e → Fit e → Makes (insert_node_m d s x i e right.0) r t
 
-  pub insert_1 : {r : Outcome} → not b ≡ true → r ≡ outcome_of Bad → InsertsTo r s
-  insert_1 h o e k f =
+  pub insert_1 : not b ≡ true → InsertsTo refused s
+  insert_1 h e k f =
       let short : sep.len ≤ longest_key = rw (ap (λ (y : Separator). y.len) k) f.short in
-      rw (not_taken s x d i sep.len read test h short e right.0) (o, refl, tt)
+      rw (not_taken s x d i sep.len read test h short e right.0) (refl, refl, tt)
 
   pub insert_2 : {place : ℕ} {r : Outcome} {t : List ℕ} → not b ≡ false → place ≡ splice_at p i
       → TakesIn s x p.count i place (sep_from (take (sep.len - 0) (drop 0 sep.key)) sep.value.0) right.0 r t → InsertsTo r t
@@ -256,8 +231,8 @@ module _ (s : List ℕ) (x i : ℕ) (k : List ℕ) (v : Value) {p : Places} {b :
   abbrev LeafTo : Outcome → List ℕ → Type 0
   LeafTo r t = 0 < v.0 → length k ≤ longest_key → Makes (insert_node_m 0 s x i (sep_from k v.0) 0) r t
 
-  pub leaf_1 : {r : Outcome} → not b ≡ true → r ≡ outcome_of Bad → LeafTo r s
-  leaf_1 h o pos short = rw (not_taken s x 0 i (length k) read test h short (sep_from k v.0) 0) (o, refl, tt)
+  pub leaf_1 : not b ≡ true → LeafTo refused s
+  leaf_1 h pos short = rw (not_taken s x 0 i (length k) read test h short (sep_from k v.0) 0) (refl, refl, tt)
 
   pub leaf_2 : {place : ℕ} {r : Outcome} {t : List ℕ} → Bytes k → v.0 < 2 ^ 64 → not b ≡ false → place ≡ splice_at p i → TakesIn s x p.count i place (sep_from k v.0) 0 r t → LeafTo r t
   leaf_2 small most h begins put pos short =
@@ -273,14 +248,13 @@ module _ (s : List ℕ) (x d i : ℕ) (value : Value) {p : Places} {b : Bool} (r
   abbrev SetsTo : Outcome → List ℕ → Type 0
   SetsTo r t = 0 < value.0 → Makes (set_value_m i value.0 x s (read_node_at d s x)) r t
 
-  pub value_1 : {r : Outcome} → not b ≡ true → r ≡ outcome_of Bad → SetsTo r s
-  unfolding has_at
-  value_1 out_of_lem o k =
+  pub value_1 : not b ≡ true → SetsTo refused s
+  value_1 out_of_lem k =
       by_bool (is_node_of d p)
       (λ h.
       let l : p.count ≤ i = ltb-false i p.count (rw (h, and_true (ltb i p.count)) at (sym test ∙ not-true b out_of_lem)) in
-      rw ((there s x d read h).found, drop_past (rest_in s x) i (omega (arith, l, count_there s x d read))) (o, refl, tt))
-      (λ h. rw (missing s x d read h) (o, refl, tt))
+      rw ((there s x d read h).found, drop_past (rest_in s x) i (omega (arith, l, count_there s x d read))) (refl, refl, tt))
+      (λ h. rw (missing s x d read h) (refl, refl, tt))
 
   module _ (passed : not b ≡ false) where
     at_index : (i < p.count) × (is_node_of d p ≡ true)
@@ -289,8 +263,11 @@ module _ (s : List ℕ) (x d i : ℕ) (value : Value) {p : Places} {b : Bool} (r
     pub value_place : (i ≤ 8) × EndWithin p
     value_place = place_there s x d read i (omega (arith, at_index.0))
 
-    pub value_2 : {place v : ℕ} {r : Outcome} {t : List ℕ} → place ≡ splice_at p i → Bytes s → value.0 < 2 ^ 64 → v ≡ slot_of s x → t ≡ revalued_bytes s v place value.0 → r ≡ outcome_of Plain → SetsTo r t
-    value_2 {place} {v} {r} {t} begins small vs slot wrote out k =
+    pub value_none : {o : std.Option Slot} {r : Outcome} {t : List ℕ} → o ≡ some_slot (slot_of s x) → o ≡ None → SetsTo r t
+    value_none slot gone k = absurd (accepted_some s x (there s x d read at_index.1).accepted slot gone)
+
+    pub value_2 : {place v : ℕ} {t : List ℕ} → place ≡ splice_at p i → Bytes s → value.0 < 2 ^ 64 → v ≡ slot_of s x → t ≡ revalued_bytes s v place value.0 → SetsTo (Ok Plain) t
+    value_2 {place} {v} {t} begins small vs slot wrote k =
         let h = there s x d read at_index.1 in
         let accepted = h.accepted in
         let within : i ≤ (places_in s x).count = omega (arith, at_index.0, count_there s x d read, count_in s x) in
@@ -303,4 +280,4 @@ module _ (s : List ℕ) (x d i : ℕ) (value : Value) {p : Places} {b : Bool} (r
         let node = revalues_node s x i e y.1 small (accepted_holds s x accepted) (accepted_standard s x accepted) within fit y (drop (suc i) q) rest refl in
         let written : t ≡ write_node s (record { slot = x; first = first_in s x; rest = take i q ++ ((e, y.1) ∷ drop (suc i) q) }) =
         wrote ∙ ap (λ (z : ℕ). revalued_bytes s z place value.0) (slot ∙ (accepted_slot s x accepted).1) ∙ ap (λ (z : ℕ). revalued_bytes s x z value.0) (begins ∙ ap (λ (z : Places). splice_at z i) read) ∙ node in
-        rw (h.found, rest) (out, written, tt)
+        rw (h.found, rest) (refl, written, tt)

@@ -8,20 +8,19 @@ use Rattle.codec.specs.Codec.{is_accepted}
 use Rattle.codec.specs.Splice.{splice_at}
 use Rattle.slots.specs.Limits.{most_node}
 use Rattle.slots.specs.Code.{places_in, reading_in, node_in, fits_depth}
-use Rattle.outcome.specs.declared.Outcome.{Outcome}
 use Rattle.outcome.specs.Mirror.{place_m, inserted_at}
-use Rattle.outcome.specs.Outcome.{Makes}
+use Rattle.outcome.specs.Outcome.{Outcome, Makes}
 
 -- whether the places are those of a node of depth d: refused bytes have no child, so they pass the child test of a leaf
-unfoldable pub is_node_of : ℕ → Places → Bool
+abbrev pub is_node_of : ℕ → Places → Bool
 is_node_of d p = fits_depth d p.count p.children && is_accepted p.ending
 
 -- whether that node takes a separator with a key of n bytes at index i
-unfoldable pub takes_at : Places → ℕ → ℕ → ℕ → Bool
+abbrev pub takes_at : Places → ℕ → ℕ → ℕ → Bool
 takes_at p d i n = leb i p.count && (leb n longest_key && is_node_of d p)
 
 -- whether that node has a separator at index i
-unfoldable pub has_at : Places → ℕ → ℕ → Bool
+abbrev pub has_at : Places → ℕ → ℕ → Bool
 has_at p d i = ltb i p.count && is_node_of d p
 
 -- keys end within a node

@@ -4,6 +4,7 @@ use mathlib.Core.Path.{◌≡◌, refl, sym, ap, subst, ◌∙◌}
 use mathlib.Core.List.{List, [], ◌∷◌, map, map-map}
 use mathlib.Core.Bool.{Bool, true, false, not}
 use mathlib.Core.Option.{Option, none, some}
+use Rattle.std.specs.Prelude.{Some, None, Ok, Err, option_map}
 use Prim.Native.Nat.{ℕ, zero, suc, ◌+◌, ◌-◌, ◌≤◌, ◌<◌}
 use lib.ListN.{length, take, drop, get_or, replicate, length-map, length-drop, get_or-map}
 use lib.Dec.{ltb, eqb}
@@ -38,25 +39,23 @@ use Rattle.slots.proofs.CodeLaws.{accepted_at, refused_at, ending_at}
 use Rattle.iter.specs.declared.Place.{Place}
 use Rattle.iter.specs.declared.Place.TheVariants.{Start, End, At, Seeked}
 use Rattle.iter.specs.declared.Cursor.{Cursor}
-use Rattle.iter.specs.declared.Step.TheVariants as step
+use Rattle.iter.specs.declared.WalkError.TheVariants as error
 use Rattle.iter.specs.declared.Stepped.{Stepped}
-use Rattle.iter.specs.declared.Turn.{Turn}
-use Rattle.iter.specs.declared.Turn.TheVariants.{Nowhere, First, NotBelow, Above, Last}
+use Rattle.search.specs.declared.Turn.{Turn}
+use Rattle.search.specs.declared.Turn.TheVariants.{First, NotBelow, Above, Last}
 use Rattle.iter.specs.declared.Aim.{Aim}
 use Rattle.iter.specs.declared.Aim.TheVariants.{Same, There, Before}
 use Rattle.iter.specs.declared.Spot as place
-use Rattle.iter.specs.declared.Candidate.{Candidate}
-use Rattle.iter.specs.declared.Candidate.TheVariants as candidate
-use Rattle.iter.specs.declared.LookedUp.{LookedUp}
-use Rattle.iter.specs.declared.LookedUp.TheVariants as looked
-use Rattle.search.specs.declared.Turn as inside
+use Rattle.iter.specs.declared.WalkError.{WalkError}
+use Rattle.search.specs.declared.Spot as within
 use Rattle.search.specs.declared.Sight.{Sight}
-use Rattle.search.specs.Search.{Sees}
+use Rattle.search.specs.Search.{turn_at, Sees}
 use Rattle.slots.specs.Search.{SawAt, SeesAt}
 use Rattle.slots.proofs.SearchLaws.{sees_at}
+use Rattle.iter.specs.Answer.{MaybeValue, Answer}
 use Rattle.iter.specs.Walk.{found_here, look_on, look_from, lookup_of, Walked, bad, walked, on_forward, on_backward, forward_from, backward_from}
 use Rattle.iter.specs.Cursor.{sought_of, is_long, key_of, moved_to, stepped_of, walk_forward, walk_backward, forward_of, backward_of}
-use Rattle.iter.specs.Mirror.{length_of, turn_forward, turn_backward, is_nowhere, step_by, in_node, turn_at, stops_at, spot_at, taken_at, candidate_at, here_of, before_of, taken_of, turned, walk_down, walk_of, walked_to, leaves_it, moves_it}
+use Rattle.iter.specs.Mirror.{Way, Candidate, Ended, Checked, length_of, turn_forward, turn_backward, spot_of, step_by, stops_at, spot_at, taken_at, candidate_at, here_of, before_of, taken_of, turned, walk_down, down_by, walk_of, check_of, when, walked_to, leaves_it, moves_it}
 
 below_suc : (d : ℕ) → (d ≡ 0 → ⊥) → d ≡ suc (d - 1)
 below_suc zero z = absurd (z refl)
@@ -102,7 +101,6 @@ zip_left p o l c (x ∷ r) =
 
 -- what holds of the separators before a turn
 abbrev pub passed : Turn → Key → Sep ℕ → Bool
-passed Nowhere k = never
 passed First k = never
 passed NotBelow k = below k
 passed Above k = not_above k
@@ -129,7 +127,6 @@ module _ (b : List ℕ) where
 
   turn_index : (t : Turn) (k : Key) → (turn_at t (places_of b) b k).index.0 ≡ leading (passed t k) chain
   unfolding found_in found_past
-  turn_index Nowhere k = sym (leading_never chain)
   turn_index First k = sym (leading_never chain)
   turn_index NotBelow k = ap (λ (f : Found). f.index.0) (position_finds b k)
   turn_index Above k = ap (λ (f : Found). f.index.0) (position_past b k)
@@ -182,9 +179,20 @@ all_drop b (x ∷ l) (suc i) h = all_drop b l i h.1
 
 -- its key lies in its node's bytes, and fits a cursor
 abbrev pub Lies : List ℕ → Candidate → Type 0
-Lies s candidate.Bad = Unit {0}
-Lies s candidate.Nothing = Unit {0}
-Lies s (candidate.At x) = (x.start + x.len ≤ length (bytes_in s x.child.0)) × (x.len ≤ longest_key)
+Lies s None = Unit {0}
+Lies s (Some x) = (x.start + x.len ≤ length (bytes_in s x.child.0)) × (x.len ≤ longest_key)
+
+-- and a walk is refused for a bad node alone
+abbrev pub Ends : List ℕ → Ended → Type 0
+Ends s (Err e) = e ≡ error.Bad
+Ends s (Ok c) = Lies s c
+
+-- a walk that ends with this candidate
+abbrev keep : Candidate → Ended
+keep c = Ok c
+
+abbrev kept_to : List ℕ → Candidate → Walked
+kept_to s c = walked_to s (Ok c)
 
 module _ (s : List ℕ) (x : Child) (c : Candidate) where
   abbrev bytes : List ℕ
@@ -196,7 +204,7 @@ module _ (s : List ℕ) (x : Child) (c : Candidate) where
   spot_none i e = pick_t _ _ (le-leb (places_of bytes).count i (omega (arith, places_count bytes, drop_none (spots bytes) i e)))
 
   spot_some : (i : ℕ) (y : Spot × ℕ) (v : List (Spot × ℕ)) → drop i (spots bytes) ≡ y ∷ v
-      → spot_at (places_of bytes) x i c ≡ candidate.At (record { child = x; start = y.0.start; len = y.0.len; value = value_of y.0.value })
+      → spot_at (places_of bytes) x i c ≡ Some (record { child = x; start = y.0.start; len = y.0.len; value = value_of y.0.value })
   unfolding spot_at places_of layout
   spot_some i y v e =
       let n = drop_some (spots bytes) i y v e in
@@ -208,7 +216,7 @@ module _ (s : List ℕ) (x : Child) (c : Candidate) where
       let q : get_or (padded 8 0 (map g (spots bytes))) i 0 ≡ y.0.len = get_or_padded 8 0 (map g (spots bytes)) i ∙ get_or_first g 0 (spots bytes) i y v e in
       let w : get_or (padded 8 (value_of 0) (map h (spots bytes))) i (value_of 0) ≡ value_of y.0.value = get_or_padded 8 (value_of 0) (map h (spots bytes)) i ∙ get_or_first h (value_of 0) (spots bytes) i y v e in
       pick_f _ _ (lt-leb (length (spots bytes)) i n) ∙ pick_f _ _ (le-ltb 7 i (omega arith))
-      ∙ (λ j. candidate.At (record { child = x; start = p j; len = q j; value = w j }))
+      ∙ (λ j. Some (record { child = x; start = p j; len = q j; value = w j }))
 
   spot_lies : (i : ℕ) → Lies s c → Lies s (spot_at (places_of bytes) x i c)
   spot_lies i l = go (drop i (spots bytes)) refl (all_drop bytes (spots bytes) i (scan_lies bytes).spots)
@@ -217,23 +225,23 @@ module _ (s : List ℕ) (x : Child) (c : Candidate) where
       go [] e h = subst (Lies s) (sym (spot_none i e)) l
       go (y ∷ v) e h = subst (Lies s) (sym (spot_some i y v e)) (h.0.within, h.0.short)
 
-  module _ (o : Option (Sep ℕ)) (w : walked_to s c ≡ walked o) where
-    spot_is : (i : ℕ) → walked_to s (spot_at (places_of bytes) x i c) ≡ walked (after o (drop i (chain bytes)))
+  module _ (o : Option (Sep ℕ)) (w : kept_to s c ≡ walked o) where
+    spot_is : (i : ℕ) → kept_to s (spot_at (places_of bytes) x i c) ≡ walked (after o (drop i (chain bytes)))
     spot_is i = go (drop i (spots bytes)) refl
       where
-        go : (q : List (Spot × ℕ)) → drop i (spots bytes) ≡ q → walked_to s (spot_at (places_of bytes) x i c) ≡ walked (after o (drop i (chain bytes)))
+        go : (q : List (Spot × ℕ)) → drop i (spots bytes) ≡ q → kept_to s (spot_at (places_of bytes) x i c) ≡ walked (after o (drop i (chain bytes)))
         go [] e =
-            ap (walked_to s) (spot_none i e) ∙ w
+            ap (kept_to s) (spot_none i e) ∙ w
             ∙ ap (λ (r : List Step). walked (after o r)) (sym (drop_mapped (step_of bytes) (spots bytes) i ∙ ap (map (step_of bytes)) e))
         go (y ∷ v) e =
-            ap (walked_to s) (spot_some i y v e)
+            ap (kept_to s) (spot_some i y v e)
             ∙ ap (λ (r : List Step). walked (after o r)) (sym (drop_mapped (step_of bytes) (spots bytes) i ∙ ap (map (step_of bytes)) e))
 
-    before_is : (i : ℕ) → walked_to s (taken_at Before (places_of bytes) x i c) ≡ walked (sep_before o i (chain bytes))
-    before_is zero = ap (walked_to s) (pick_t _ _ (lt-ltb 0 1 (omega arith))) ∙ w
+    before_is : (i : ℕ) → kept_to s (taken_at Before (places_of bytes) x i c) ≡ walked (sep_before o i (chain bytes))
+    before_is zero = ap (kept_to s) (pick_t _ _ (lt-ltb 0 1 (omega arith))) ∙ w
     before_is (suc i) =
         let n : suc i - 1 ≡ i = omega arith in
-        ap (walked_to s) (pick_f _ _ (le-ltb (suc i) 1 (omega arith)) ∙ ap (λ (j : ℕ). spot_at (places_of bytes) x j c) n) ∙ spot_is i
+        ap (kept_to s) (pick_f _ _ (le-ltb (suc i) 1 (omega arith)) ∙ ap (λ (j : ℕ). spot_at (places_of bytes) x j c) n) ∙ spot_is i
 
 -- ---- the walk down
 
@@ -264,7 +272,7 @@ module _ (s : List ℕ) (t : Turn) (a : Aim) (k : Key) where
       pick_t _ _ e
       ∙ ap (λ (p : Places). turned t a k (walk_down t a k d s) p x c (turn_at t p (bytes_in s x.0) k)) (is_read s d x e).places
 
-  down_bad : (d : ℕ) (x : Child) (c : Candidate) → is_accepted (places_at d s x.0).ending ≡ false → walk_down t a k (suc d) s x c ≡ candidate.Bad
+  down_bad : (d : ℕ) (x : Child) (c : Candidate) → is_accepted (places_at d s x.0).ending ≡ false → walk_down t a k (suc d) s x c ≡ Err error.Bad
   unfolding walk_down
   down_bad d x c e = pick_f _ _ e
 
@@ -276,7 +284,7 @@ module _ (s : List ℕ) (t : Turn) (a : Aim) (k : Key) where
       go There = spot_lies s x c i l
       go Before = by_test (Lies s) (ltb i 1) (λ e. l) (λ e. spot_lies s x c (i - 1) l)
 
-  down_lies : (d : ℕ) (x : Child) (c : Candidate) → Lies s c → Lies s (walk_down t a k d s x c)
+  down_lies : (d : ℕ) (x : Child) (c : Candidate) → Lies s c → Ends s (walk_down t a k d s x c)
   unfolding walk_down
   down_lies zero x c l = l
   down_lies (suc d) x c l =
@@ -284,10 +292,10 @@ module _ (s : List ℕ) (t : Turn) (a : Aim) (k : Key) where
       let f : Found = turn_at t p (bytes_in s x.0) k in
       by_bool (is_accepted (places_at d s x.0).ending)
       (λ e.
-      subst (Lies s) (sym (down_read d x c e))
-      (by_test (Lies s) (stops_at a f.at) (λ q. spot_lies s x c f.index.0 l)
+      subst (Ends s) (sym (down_read d x c e))
+      (by_test (Ends s) (stops_at a f.at) (λ q. spot_lies s x c f.index.0 l)
       (λ q. down_lies d (get_or p.children f.index.0 (child_of 0)) (taken_at a p x f.index.0 c) (taken_lies x f.index.0 c l))))
-      (λ e. subst (Lies s) (sym (down_bad d x c e)) tt)
+      (λ e. subst (Ends s) (sym (down_bad d x c e)) refl)
 
 -- the walk goes on in the child where it turns
 module _ (s : List ℕ) (t : Turn) (k : Key) (x : Child) where
@@ -314,7 +322,7 @@ module _ (s : List ℕ) (t : Turn) (k : Key) (x : Child) where
       ∙ ap (λ (i : ℕ). sep_before o i (rest_in s x.0)) (sym (turn_index (bytes_in s x.0) t k))
 
 module _ (s : List ℕ) (t : Turn) (k : Key) where
-  pub there_is : (d : ℕ) (x : Child) (c : Candidate) (o : Option (Sep ℕ)) → walked_to s c ≡ walked o → walked_to s (walk_down t There k d s x c) ≡ forward_from (passed t k) d s x.0 o
+  pub there_is : (d : ℕ) (x : Child) (c : Candidate) (o : Option (Sep ℕ)) → kept_to s c ≡ walked o → walked_to s (walk_down t There k d s x c) ≡ forward_from (passed t k) d s x.0 o
   unfolding walk_down forward_from
   there_is zero x c o w = w
   there_is (suc d) x c o w =
@@ -330,7 +338,7 @@ module _ (s : List ℕ) (t : Turn) (k : Key) where
       ∙ ap (on_forward (passed t k) (forward_from (passed t k) d s) o) (sym (is_read s d x e).node))
       (λ e. ap (walked_to s) (down_bad s t There k d x c e) ∙ ap (on_forward (passed t k) (forward_from (passed t k) d s) o) (sym (not_read s d x e)))
 
-  pub before_walk : (d : ℕ) (x : Child) (c : Candidate) (o : Option (Sep ℕ)) → walked_to s c ≡ walked o → walked_to s (walk_down t Before k d s x c) ≡ backward_from (passed t k) d s x.0 o
+  pub before_walk : (d : ℕ) (x : Child) (c : Candidate) (o : Option (Sep ℕ)) → kept_to s c ≡ walked o → walked_to s (walk_down t Before k d s x c) ≡ backward_from (passed t k) d s x.0 o
   unfolding walk_down backward_from
   before_walk zero x c o w = w
   before_walk (suc d) x c o w =
@@ -348,22 +356,22 @@ module _ (s : List ℕ) (t : Turn) (k : Key) where
 
 -- ---- lookup: the walk to the key itself
 
-abbrev pub looked_by : Walked → LookedUp
-looked_by bad = looked.Bad
-looked_by (walked none) = looked.Absent
-looked_by (walked (some e)) = looked.Found (value_of e.val)
+abbrev pub looked_by : Walked → Answer
+looked_by bad = Err error.Bad
+looked_by (walked none) = Ok None
+looked_by (walked (some e)) = Ok (Some (value_of e.val))
 
 module _ (s : List ℕ) (k : Key) where
   -- in a node: what stands right of the zipper tells whether the key is there
-  same_node : (below' : LookedUp) (r : List Step) (c : Candidate) (b : Bool) (m : Candidate) → b ≡ is_next k r → walked_to s c ≡ walked (after none r) → looked_by (walked_to s m) ≡ below'
-      → looked_by (walked_to s (pick b c m)) ≡ found_here k below' r
-  same_node below' [] c b m h w e = ap (λ (z : Candidate). looked_by (walked_to s z)) (pick_f _ _ h) ∙ e
+  same_node : (below' : Answer) (r : List Step) (c : Candidate) (b : Bool) (m : Ended) → b ≡ is_next k r → kept_to s c ≡ walked (after none r) → looked_by (walked_to s m) ≡ below'
+      → looked_by (walked_to s (pick b (Ok c) m)) ≡ found_here k below' r
+  same_node below' [] c b m h w e = ap (λ (z : Ended). looked_by (walked_to s z)) (pick_f _ _ h) ∙ e
   same_node below' (y ∷ r) c b m h w e =
       by_bool (same k y.0)
-      (λ q. rw q (ap (λ (z : Candidate). looked_by (walked_to s z)) (pick_t _ _ (h ∙ q)) ∙ ap looked_by w))
-      (λ q. rw q (ap (λ (z : Candidate). looked_by (walked_to s z)) (pick_f _ _ (h ∙ q)) ∙ e))
+      (λ q. rw q (ap (λ (z : Ended). looked_by (walked_to s z)) (pick_t _ _ (h ∙ q)) ∙ ap looked_by w))
+      (λ q. rw q (ap (λ (z : Ended). looked_by (walked_to s z)) (pick_f _ _ (h ∙ q)) ∙ e))
 
-  pub same_is : (d : ℕ) (x : Child) → looked_by (walked_to s (walk_down NotBelow Same k d s x candidate.Nothing)) ≡ look_from k d s x.0
+  pub same_is : (d : ℕ) (x : Child) → looked_by (walked_to s (walk_down NotBelow Same k d s x None)) ≡ look_from k d s x.0
   unfolding walk_down look_from
   same_is zero x = refl
   same_is (suc d) x =
@@ -373,41 +381,41 @@ module _ (s : List ℕ) (k : Key) where
       let y : Child = get_or p.children i (child_of 0) in
       let ends : (turn_at NotBelow p b k).at ≡ is_next k (at (below k) (node_in s x.0)).rgt =
       turn_at_lem b k ∙ ap (is_next k) (sym (zip_right (below k) [] (first_in s x.0) (rest_in s x.0))) in
-      let spot : walked_to s (spot_at p x i candidate.Nothing) ≡ walked (after none (at (below k) (node_in s x.0)).rgt) =
-      spot_is s x candidate.Nothing none refl i ∙ ap (λ (r : List Step). walked (after none r)) (sym (right_is s NotBelow k x)) in
+      let spot : kept_to s (spot_at p x i None) ≡ walked (after none (at (below k) (node_in s x.0)).rgt) =
+      spot_is s x None none refl i ∙ ap (λ (r : List Step). walked (after none r)) (sym (right_is s NotBelow k x)) in
       by_bool (is_accepted (places_at d s x.0).ending)
       (λ e.
-      ap (λ (z : Candidate). looked_by (walked_to s z)) (down_read s NotBelow Same k d x candidate.Nothing e)
-      ∙ same_node (look_from k d s (at (below k) (node_in s x.0)).mid) (at (below k) (node_in s x.0)).rgt (spot_at p x i candidate.Nothing) (turn_at NotBelow p b k).at
-      (walk_down NotBelow Same k d s y candidate.Nothing) ends spot (same_is d y ∙ ap (look_from k d s) (next_child s NotBelow k x))
+      ap (λ (z : Ended). looked_by (walked_to s z)) (down_read s NotBelow Same k d x None e)
+      ∙ same_node (look_from k d s (at (below k) (node_in s x.0)).mid) (at (below k) (node_in s x.0)).rgt (spot_at p x i None) (turn_at NotBelow p b k).at
+      (walk_down NotBelow Same k d s y None) ends spot (same_is d y ∙ ap (look_from k d s) (next_child s NotBelow k x))
       ∙ ap (look_on k (look_from k d s)) (sym (is_read s d x e).node))
       (λ e.
-      ap (λ (z : Candidate). looked_by (walked_to s z)) (down_bad s NotBelow Same k d x candidate.Nothing e)
+      ap (λ (z : Ended). looked_by (walked_to s z)) (down_bad s NotBelow Same k d x None e)
       ∙ ap (look_on k (look_from k d s)) (sym (not_read s d x e)))
 
 -- ---- the ways through the functions: in a node
+
+abbrev some_spot : place.Spot → Candidate
+some_spot x = Some x
 
 module _ (p : Places) (x : Child) (i : ℕ) (c : Candidate) where
   spot_1 : p.count ≤ i → c ≡ spot_at p x i c
   unfolding spot_at
   spot_1 h = sym (pick_t _ _ (le-leb p.count i h))
 
-  spot_3 : i < p.count → i ≤ 7 → candidate.At (record { child = x; start = get_or p.starts i 0; len = get_or p.lens i 0; value = get_or p.values i (value_of 0) }) ≡ spot_at p x i c
+  spot_3 : i < p.count → i ≤ 7 → Some (record { child = x; start = get_or p.starts i 0; len = get_or p.lens i 0; value = get_or p.values i (value_of 0) }) ≡ spot_at p x i c
   unfolding spot_at
   spot_3 l h = sym (pick_f _ _ (lt-leb p.count i l) ∙ pick_f _ _ (le-ltb 7 i h))
-
--- in an arm for u, the answer is what it would be for u
-pub turn_arm : {t u : Turn} {r : inside.Turn} → t ≡ u → r ≡ in_node u → r ≡ in_node t
-turn_arm e q = rw e q
 
 pub here_1 : (v : Sight) (x : Child) (c : Candidate) → not v.turned ≡ true → c ≡ here_of v x c
 unfolding here_of
 here_1 v x c h = sym (pick_f _ _ (not-true v.turned h))
 
-pub here_2 : (v : Sight) (x : Child) (c : Candidate) {r : Candidate} → not v.turned ≡ false → r ≡ candidate_at x v.here → r ≡ here_of v x c
+pub here_2 : (v : Sight) (x : Child) (c : Candidate) {r : place.Spot} → not v.turned ≡ false → r ≡ candidate_at x v.here → Some r ≡ here_of v x c
 unfolding here_of
-here_2 v x c h q = q ∙ sym (pick_t _ _ (not-false v.turned h))
+here_2 v x c h q = ap some_spot q ∙ sym (pick_t _ _ (not-false v.turned h))
 
+-- in an arm for u, the answer is what it would be for u
 module _ {a u : Aim} (v : Sight) (x : Child) (c : Candidate) {r : Candidate} (e : a ≡ u) where
   pub taken_arm : r ≡ taken_of u v x c → r ≡ taken_of a v x c
   taken_arm q = rw e q
@@ -416,30 +424,24 @@ pub taken_first : (v : Sight) (x : Child) (c : Candidate) → v.found.index.0 < 
 unfolding before_of
 taken_first v x c h = sym (pick_t _ _ (lt-ltb v.found.index.0 1 h))
 
-pub taken_before : (v : Sight) (x : Child) (c : Candidate) {r : Candidate} → 1 ≤ v.found.index.0 → r ≡ candidate_at x v.before → r ≡ before_of v x c
+pub taken_before : (v : Sight) (x : Child) (c : Candidate) {r : place.Spot} → 1 ≤ v.found.index.0 → r ≡ candidate_at x v.before → Some r ≡ before_of v x c
 unfolding before_of
-taken_before v x c h q = q ∙ sym (pick_f _ _ (le-ltb v.found.index.0 1 h))
-
-pub stops_arm : {a u : Aim} (at : Bool) {r : Bool} → a ≡ u → r ≡ stops_at u at → r ≡ stops_at a at
-stops_arm at e q = rw e q
-
-pub forward_arm : {p q : Place} {t : Turn} → p ≡ q → t ≡ turn_forward q → t ≡ turn_forward p
-forward_arm e q = rw e q
-
-pub backward_arm : {p q : Place} {t : Turn} → p ≡ q → t ≡ turn_backward q → t ≡ turn_backward p
-backward_arm e q = rw e q
+taken_before v x c h q = ap some_spot q ∙ sym (pick_f _ _ (le-ltb v.found.index.0 1 h))
 
 -- ---- what is seen in a node that is read
 
-module _ (s : List ℕ) (d : ℕ) (x : Child) (t : Turn) (k : Key) {v : Sight} (saw : SawAt (in_node t) d s x.0 k v) where
+abbrev seen_at : Child → within.Spot → Candidate
+seen_at x y = Some (candidate_at x y)
+
+module _ (s : List ℕ) (d : ℕ) (x : Child) (t : Turn) (k : Key) {v : Sight} (saw : SawAt t d s x.0 k v) where
   abbrev places : Places
   places = places_at d s x.0
 
-  is_seen : SeesAt (in_node t) d s x.0 k v
-  is_seen = sees_at (in_node t) d s x.0 k saw
+  is_seen : SeesAt t d s x.0 k v
+  is_seen = sees_at t d s x.0 k saw
 
   module _ (good : not v.good ≡ false) where
-    seen : Sees (in_node t) places (bytes_in s x.0) k v
+    seen : Sees t places (bytes_in s x.0) k v
     seen = is_seen.sees (not-false v.good good)
 
     read_lem : Read s d x
@@ -460,7 +462,7 @@ module _ (s : List ℕ) (d : ℕ) (x : Child) (t : Turn) (k : Key) {v : Sight} (
         by_bool v.turned
         (λ e.
         let l : v.found.index.0 < places.count = ltb-true v.found.index.0 places.count (sym seen.turned_is ∙ e) in
-        pick_t _ _ e ∙ ap (candidate_at x) (seen.here_is e) ∙ spot_3 places x v.found.index.0 c l (omega (arith, count_most)))
+        pick_t _ _ e ∙ ap (seen_at x) (seen.here_is e) ∙ spot_3 places x v.found.index.0 c l (omega (arith, count_most)))
         (λ e. pick_f _ _ e ∙ spot_1 places x v.found.index.0 c (ltb-false v.found.index.0 places.count (sym seen.turned_is ∙ e)))
 
     before_here : (c : Candidate) → before_of v x c ≡ taken_at Before places x v.found.index.0 c
@@ -471,7 +473,7 @@ module _ (s : List ℕ) (d : ℕ) (x : Child) (t : Turn) (k : Key) {v : Sight} (
         go zero e = pick_t _ _ (lt-ltb v.found.index.0 1 (omega arith)) ∙ sym (pick_t _ _ (lt-ltb v.found.index.0 1 (omega arith)))
         go (suc i) e =
             pick_f _ _ (le-ltb v.found.index.0 1 (omega arith))
-            ∙ ap (candidate_at x) (seen.before_is (omega arith))
+            ∙ ap (seen_at x) (seen.before_is (omega arith))
             ∙ spot_3 places x (v.found.index.0 - 1) c (omega (arith, index_most)) (omega (arith, index_most, count_most))
             ∙ sym (pick_f _ _ (le-ltb v.found.index.0 1 (omega arith)))
 
@@ -484,17 +486,14 @@ module _ (s : List ℕ) (d : ℕ) (x : Child) (t : Turn) (k : Key) {v : Sight} (
 
 module _ (t : Turn) (a : Aim) (k : Key) (s : List ℕ) where
   -- the invariant of the loop: what is left of the walk makes the whole
-  abbrev pub WalkLeft : Candidate → ℕ → Child → Candidate → Type 0
+  abbrev pub WalkLeft : Ended → ℕ → Child → Candidate → Type 0
   WalkLeft whole d x c = whole ≡ walk_down t a k (suc d) s x c
 
-  module _ (whole : Candidate) (d : ℕ) (x : Child) (c : Candidate) (left : WalkLeft whole d x c) {w : inside.Turn} (way : w ≡ in_node t) {v : Sight} (sees : SawAt w d s x.0 k v) where
-    saw : SawAt (in_node t) d s x.0 k v
-    saw = subst (λ (u : inside.Turn). SawAt u d s x.0 k v) way sees
-
+  module _ (whole : Ended) (d : ℕ) (x : Child) (c : Candidate) (left : WalkLeft whole d x c) {v : Sight} (saw : SawAt t d s x.0 k v) where
     abbrev at_depth : Places
     at_depth = places_at d s x.0
 
-    pub down_1 : not v.good ≡ true → candidate.Bad ≡ whole
+    pub down_1 : not v.good ≡ true → Err error.Bad ≡ whole
     down_1 h = sym (left ∙ down_bad s t a k d x c (sym (is_seen s d x t k saw).good_is ∙ not-true v.good h))
 
     module _ (h : not v.good ≡ false) {e : Bool} (ends : e ≡ stops_at a v.found.at) where
@@ -505,8 +504,8 @@ module _ (t : Turn) (a : Aim) (k : Key) (s : List ℕ) where
           left ∙ pick_t _ _ (sym (is_seen s d x t k saw).good_is ∙ not-false v.good h)
           ∙ ap (turned t a k (walk_down t a k d s) at_depth x c) (sym (seen s d x t k saw h).found_is)
 
-      pub down_2 : {r : Candidate} → e ≡ true → r ≡ here_of v x c → r ≡ whole
-      down_2 q w = w ∙ here_is s d x t k saw h c ∙ sym (node_walk ∙ pick_t _ _ (sym ends ∙ q))
+      pub down_2 : {r : Candidate} → e ≡ true → r ≡ here_of v x c → Ok r ≡ whole
+      down_2 q w = ap keep (w ∙ here_is s d x t k saw h c) ∙ sym (node_walk ∙ pick_t _ _ (sym ends ∙ q))
 
       module _ (q : e ≡ false) {m : Candidate} (takes : m ≡ taken_of a v x c) where
         goes_on_lem : whole ≡ walk_down t a k d s v.child m
@@ -515,71 +514,131 @@ module _ (t : Turn) (a : Aim) (k : Key) (s : List ℕ) where
             ∙ ap (λ (y : Child). walk_down t a k d s y (taken_at a at_depth x v.found.index.0 c)) (sym (seen s d x t k saw h).child_is)
             ∙ ap (walk_down t a k d s v.child) (sym (takes ∙ taken_is s d x t k saw h a c))
 
-        pub down_3 : d ≡ 0 → m ≡ whole
+        pub down_3 : d ≡ 0 → Ok m ≡ whole
         unfolding walk_down
         down_3 z = sym (goes_on_lem ∙ ap (λ (n : ℕ). walk_down t a k n s v.child m) z)
 
         pub down_4 : (d ≡ 0 → ⊥) → WalkLeft whole (d - 1) v.child m
         down_4 z = goes_on_lem ∙ ap (λ (n : ℕ). walk_down t a k n s v.child m) (below_suc d z)
 
-  module _ (root : Child) (reads : root.0 ≡ root_of s) where
-    pub walk_1 : root.0 ≡ 0 → candidate.Nothing ≡ walk_of t a k s
+module _ (w : Way) (a : Aim) (k : Key) (s : List ℕ) (root : Child) (reads : root.0 ≡ root_of s) where
+  pub walk_1 : root.0 ≡ 0 → Ok None ≡ walk_of w a k s
+  unfolding walk_of
+  walk_1 z = sym (pick_t _ _ (eq-eqb (root_of s) 0 (sym reads ∙ z)))
+
+  module _ (z : root.0 ≡ 0 → ⊥) where
+    there : eqb (root_of s) 0 ≡ false
+    there = ne_eqb (root_of s) 0 (λ q. z (reads ∙ q))
+
+    pub walk_2 : w ≡ None → Ok None ≡ walk_of w a k s
     unfolding walk_of
-    walk_1 z = sym (pick_t _ _ (eq-eqb (root_of s) 0 (sym reads ∙ z)))
+    walk_2 q = sym (pick_f _ _ there ∙ ap (λ (v : Way). down_by v a k s) q)
 
-    module _ (z : root.0 ≡ 0 → ⊥) {n : Bool} (says : n ≡ is_nowhere t) where
-      there : eqb (root_of s) 0 ≡ false
-      there = ne_eqb (root_of s) 0 (λ q. z (reads ∙ q))
+    pub walk_3 : {t : Turn} {d : ℕ} {r : Ended} → w ≡ Some t → d ≡ depth_of s → r ≡ walk_down t a k (suc d) s root None → r ≡ walk_of w a k s
+    unfolding walk_of
+    walk_3 {t} {d} {r} q e h =
+        let y : root ≡ child_of (root_of s) = λ i. record { 0 = reads i } in
+        h ∙ ap (λ (m : ℕ). walk_down t a k (suc m) s root None) e ∙ ap (λ (v : Child). walk_down t a k (suc (depth_of s)) s v None) y
+        ∙ sym (pick_f _ _ there ∙ ap (λ (v : Way). down_by v a k s) q)
 
-      pub walk_2 : n ≡ true → candidate.Nothing ≡ walk_of t a k s
-      unfolding walk_of
-      walk_2 q = sym (pick_f _ _ there ∙ pick_t _ _ (sym says ∙ q))
+by_lies : (w : Way) (a : Aim) (k : Key) (s : List ℕ) → Ends s (down_by w a k s)
+by_lies None a k s = tt
+by_lies (Some t) a k s = down_lies s t a k (suc (depth_of s)) (child_of (root_of s)) None tt
 
-      pub walk_3 : {d : ℕ} {r : Candidate} → n ≡ false → d ≡ depth_of s → r ≡ walk_down t a k (suc d) s root candidate.Nothing → r ≡ walk_of t a k s
-      unfolding walk_of
-      walk_3 {d} {r} q e w =
-          let y : root ≡ child_of (root_of s) = λ i. record { 0 = reads i } in
-          w ∙ ap (λ (m : ℕ). walk_down t a k (suc m) s root candidate.Nothing) e ∙ ap (λ (v : Child). walk_down t a k (suc (depth_of s)) s v candidate.Nothing) y
-          ∙ sym (pick_f _ _ there ∙ pick_f _ _ (sym says ∙ q))
-
-walk_lies : (t : Turn) (a : Aim) (k : Key) (s : List ℕ) → Lies s (walk_of t a k s)
+walk_lies : (w : Way) (a : Aim) (k : Key) (s : List ℕ) → Ends s (walk_of w a k s)
 unfolding walk_of
-walk_lies t a k s =
-    by_test (Lies s) (eqb (root_of s) 0) (λ e. tt)
-    (λ e. by_test (Lies s) (is_nowhere t) (λ q. tt) (λ q. down_lies s t a k (suc (depth_of s)) (child_of (root_of s)) candidate.Nothing tt))
+walk_lies w a k s = by_test (Ends s) (eqb (root_of s) 0) (λ e. tt) (λ e. by_lies w a k s)
+
+-- ---- the refusals before a walk
+
+module _ (s : List ℕ) (n : ℕ) where
+  module _ {b : Bool} (store : b ≡ is_store s) where
+    pub check_1 : not b ≡ true → Err error.NotStore ≡ check_of s n
+    unfolding check_of
+    check_1 h = sym (pick_f _ _ (sym store ∙ not-true b h))
+
+    module _ (h : not b ≡ false) where
+      pub check_2 : longest_key < n → Err error.LongKey ≡ check_of s n
+      unfolding check_of
+      check_2 l = sym (pick_t _ _ (sym store ∙ not-false b h) ∙ pick_t _ _ (lt-ltb longest_key n l))
+
+      module _ (l : n ≤ longest_key) {d : ℕ} (depth : d ≡ depth_of s) where
+        pub check_3 : most_depth < d → Err error.Bad ≡ check_of s n
+        unfolding check_of
+        check_3 g = sym (pick_t _ _ (sym store ∙ not-false b h) ∙ pick_f _ _ (le-ltb longest_key n l) ∙ pick_t _ _ (lt-ltb most_depth (depth_of s) (rw depth at g)))
+
+        pub check_4 : d ≤ most_depth → Ok tt ≡ check_of s n
+        unfolding check_of
+        check_4 g = sym (pick_t _ _ (sym store ∙ not-false b h) ∙ pick_f _ _ (le-ltb longest_key n l) ∙ pick_f _ _ (le-ltb most_depth (depth_of s) (rw depth at g)))
+
+  -- the tests of a check, wherever they are made
+  check_is : {A : Type 0} (f : WalkError → A) (y : A)
+      → when (check_of s n) f y ≡ pick (is_store s) (pick (ltb longest_key n) (f error.LongKey) (pick (ltb most_depth (depth_of s)) (f error.Bad) y)) (f error.NotStore)
+  unfolding check_of pick
+  check_is {A} f y = go (is_store s) (ltb longest_key n) (ltb most_depth (depth_of s))
+    where
+      go : (a b d : Bool) → when (pick a (pick b (Err error.LongKey) (pick d (Err error.Bad) (Ok tt))) (Err error.NotStore)) f y ≡ pick a (pick b (f error.LongKey) (pick d (f error.Bad) y)) (f error.NotStore)
+      go false b d = refl
+      go true true d = refl
+      go true false true = refl
+      go true false false = refl
+
+  -- an accepted length fits
+  pub check_fits : {q : Checked} → q ≡ check_of s n → {u : Unit} → q ≡ Ok u → n ≤ longest_key
+  unfolding check_of pick
+  check_fits {q} e {u} h = go (is_store s) (ltb longest_key n) refl (sym e ∙ h)
+    where
+      go : (a b : Bool) → ltb longest_key n ≡ b → pick a (pick b (Err error.LongKey) (pick (ltb most_depth (depth_of s)) (Err error.Bad) (Ok tt))) (Err error.NotStore) ≡ Ok u → n ≤ longest_key
+      go false b t c = cc
+      go true true t c = cc
+      go true false t c = ltb-false longest_key n t
 
 -- ---- lookup
 
 module _ (s : List ℕ) (k : Key) where
-  root_same : pick (eqb (root_of s) 0) looked.Absent (look_from k (suc (depth_of s)) s (root_of s)) ≡ looked_by (walked_to s (walk_of NotBelow Same k s))
+  root_same : pick (eqb (root_of s) 0) (Ok None) (look_from k (suc (depth_of s)) s (root_of s)) ≡ looked_by (walked_to s (walk_of (Some NotBelow) Same k s))
   unfolding walk_of
   root_same =
       by_bool (eqb (root_of s) 0)
-      (λ e. pick_t _ _ e ∙ ap (λ (c : Candidate). looked_by (walked_to s c)) (sym (pick_t _ _ e)))
+      (λ e. pick_t _ _ e ∙ ap (λ (c : Ended). looked_by (walked_to s c)) (sym (pick_t _ _ e)))
       (λ e.
       pick_f _ _ e ∙ sym (same_is s k (suc (depth_of s)) (child_of (root_of s)))
-      ∙ ap (λ (c : Candidate). looked_by (walked_to s c)) (sym (pick_f _ _ e ∙ pick_f _ _ refl)))
+      ∙ ap (λ (c : Ended). looked_by (walked_to s c)) (sym (pick_f _ _ e)))
 
-  module _ {b : Bool} (store : b ≡ is_store s) where
-    pub lookup_1 : not b ≡ true → looked.NotStore ≡ lookup_of s k
-    unfolding lookup_of
-    lookup_1 h = sym (pick_f _ _ (sym store ∙ not-true b h))
+  lookup_when : when (check_of s (length k)) (λ e. Err e) (looked_by (walked_to s (walk_of (Some NotBelow) Same k s))) ≡ lookup_of s k
+  unfolding lookup_of
+  lookup_when = check_is s (length k) (λ e. Err e) (looked_by (walked_to s (walk_of (Some NotBelow) Same k s))) ∙ rw (← root_same)
 
-    module _ (h : not b ≡ false) where
-      pub lookup_2 : longest_key < length k → looked.LongKey ≡ lookup_of s k
-      unfolding lookup_of
-      lookup_2 l = sym (pick_t _ _ (sym store ∙ not-false b h) ∙ pick_t _ _ (lt-ltb longest_key (length k) l))
+  module _ {q : Checked} (checked : q ≡ check_of s (length k)) where
+    after_check : when q (λ e. Err e) (looked_by (walked_to s (walk_of (Some NotBelow) Same k s))) ≡ lookup_of s k
+    after_check = ap (λ (q : Checked). when q (λ e. Err e) (looked_by (walked_to s (walk_of (Some NotBelow) Same k s)))) checked ∙ lookup_when
 
-      module _ (l : length k ≤ longest_key) {d : ℕ} (depth : d ≡ depth_of s) where
-        pub lookup_3 : most_depth < d → looked.Bad ≡ lookup_of s k
-        unfolding lookup_of
-        lookup_3 g = sym (pick_t _ _ (sym store ∙ not-false b h) ∙ pick_f _ _ (le-ltb longest_key (length k) l) ∙ pick_t _ _ (lt-ltb most_depth (depth_of s) (rw depth at g)))
+    pub lookup_1 : {e : WalkError} → q ≡ Err e → Err e ≡ lookup_of s k
+    lookup_1 h = ap (λ (q : Checked). when q (λ e. Err e) (looked_by (walked_to s (walk_of (Some NotBelow) Same k s)))) (sym h) ∙ after_check
 
-        pub lookup_4 : {w c : Candidate} {r : LookedUp} → d ≤ most_depth → w ≡ walk_of NotBelow Same k s → w ≡ c → r ≡ looked_by (walked_to s c) → r ≡ lookup_of s k
-        unfolding lookup_of
-        lookup_4 {w} {c} {r} g e q a =
-            a ∙ ap (λ (v : Candidate). looked_by (walked_to s v)) (sym q ∙ e)
-            ∙ sym (pick_t _ _ (sym store ∙ not-false b h) ∙ pick_f _ _ (le-ltb longest_key (length k) l) ∙ pick_f _ _ (le-ltb most_depth (depth_of s) (rw depth at g)) ∙ root_same)
+    module _ {u : Unit} (h : q ≡ Ok u) {w : Ended} (walks : w ≡ walk_of (Some NotBelow) Same k s) where
+      lookup_by_walk : looked_by (walked_to s w) ≡ lookup_of s k
+      lookup_by_walk =
+          ap (λ (z : Ended). looked_by (walked_to s z)) walks
+          ∙ ap (λ (q : Checked). when q (λ e. Err e) (looked_by (walked_to s (walk_of (Some NotBelow) Same k s)))) (sym h) ∙ after_check
+
+      pub lookup_2 : {e : WalkError} → w ≡ Err e → Err e ≡ lookup_of s k
+      lookup_2 {e} f =
+          let bad : e ≡ error.Bad = subst (Ends s) (sym walks ∙ f) (walk_lies (Some NotBelow) Same k s) in
+          ap refuse bad ∙ ap (λ (z : Ended). looked_by (walked_to s z)) (sym f) ∙ lookup_by_walk
+        where
+          refuse : WalkError → Answer
+          refuse e = Err e
+
+      pub lookup_3 : {c : Candidate} {o : MaybeValue} → w ≡ Ok c → o ≡ option_map (λ (x : place.Spot). x.value) c → Ok o ≡ lookup_of s k
+      lookup_3 {c} f a = ap looked_ok a ∙ looked_kept c ∙ ap (λ (z : Ended). looked_by (walked_to s z)) (sym f) ∙ lookup_by_walk
+        where
+          looked_ok : MaybeValue → Answer
+          looked_ok o = Ok o
+
+          looked_kept : (c : Candidate) → Ok (option_map (λ (x : place.Spot). x.value) c) ≡ looked_by (kept_to s c)
+          looked_kept None = refl
+          looked_kept (Some x) = refl
 
 -- ---- the cursor
 
@@ -613,48 +672,65 @@ module _ (k : Key) where
       let q : o ≡ padded 288 0 k = copied_key k 0 (length k) (omega arith) h e ∙ ap (padded 288 0) (part_whole k) in
       ap (λ (o : List ℕ). record { accepted = true; cursor = record { place = Seeked (length k); key = o } }) q ∙ sym (pick_f _ _ (le-ltb longest_key (length k) h))
 
-module _ (s : List ℕ) (c : Cursor) (t : Turn) (a : Aim) (p : Place) {b : Bool} (store : b ≡ is_store s) where
-  pub step_1 : {r : Stepped} → not b ≡ true → r ≡ leaves_it step.NotStore c → r ≡ step_by s c t a p
-  unfolding step_by
-  step_1 h q = q ∙ sym (pick_f _ _ (sym store ∙ not-true b h))
+module _ (s : List ℕ) (c : Cursor) (w : Way) (a : Aim) where
+  abbrev walked_for : Ended
+  walked_for = walk_of w a (key_of c (length_of c.place)) s
 
-  module _ (h : not b ≡ false) {n : ℕ} (len : n ≡ length_of c.place) where
-    pub step_2 : {r : Stepped} → longest_key < n → r ≡ leaves_it step.LongKey c → r ≡ step_by s c t a p
-    unfolding step_by
-    step_2 l q = q ∙ sym (pick_t _ _ (sym store ∙ not-false b h) ∙ pick_t _ _ (lt-ltb longest_key (length_of c.place) (rw len at l)))
+  module _ {n : ℕ} (len : n ≡ length_of c.place) {q : Checked} (checked : q ≡ check_of s n) where
+    behind_check : when q (λ e. Err e) walked_for ≡ spot_of s c w a
+    unfolding spot_of
+    behind_check = ap (λ (q : Checked). when q (λ e. Err e) walked_for) (checked ∙ ap (check_of s) len)
 
-    module _ (l : n ≤ longest_key) {d : ℕ} (depth : d ≡ depth_of s) where
-      pub step_3 : {r : Stepped} → most_depth < d → r ≡ leaves_it step.Bad c → r ≡ step_by s c t a p
-      unfolding step_by
-      step_3 g q = q ∙ sym (pick_t _ _ (sym store ∙ not-false b h) ∙ pick_f _ _ (le-ltb longest_key (length_of c.place) (rw len at l)) ∙ pick_t _ _ (lt-ltb most_depth (depth_of s) (rw depth at g)))
+    pub spot_for_1 : {e : WalkError} → q ≡ Err e → Err e ≡ spot_of s c w a
+    spot_for_1 h = ap (λ (q : Checked). when q (λ e. Err e) walked_for) (sym h) ∙ behind_check
 
-      module _ (g : d ≤ most_depth) {w : Candidate} (part-walks : w ≡ walk_of t a (take (n - 0) (drop 0 c.key)) s) where
-        walks : w ≡ walk_of t a (take n c.key) s
-        walks = let z : n - 0 ≡ n = omega arith in part-walks ∙ ap (λ (m : ℕ). walk_of t a (take m c.key) s) z
+    pub spot_for_2 : {u : Unit} {r : Ended} → q ≡ Ok u → r ≡ walk_of w a (take n c.key) s → r ≡ spot_of s c w a
+    spot_for_2 h e = e ∙ ap (λ (m : ℕ). walk_of w a (take m c.key) s) len ∙ ap (λ (q : Checked). when q (λ e. Err e) walked_for) (sym h) ∙ behind_check
 
-        moves : step_by s c t a p ≡ moved_to c p (walked_to s w)
-        unfolding step_by
-        moves =
-            pick_t _ _ (sym store ∙ not-false b h) ∙ pick_f _ _ (le-ltb longest_key (length_of c.place) (rw len at l)) ∙ pick_f _ _ (le-ltb most_depth (depth_of s) (rw depth at g))
-            ∙ ap (λ (v : Candidate). moved_to c p (walked_to s v)) (ap (λ (m : ℕ). walk_of t a (take m c.key) s) (sym len) ∙ sym walks)
+  module _ (p : Place) {r : Ended} (spots : r ≡ spot_of s c w a) where
+    -- a refusal before the walk, or the walk's
+    pub step_1 : {e : WalkError} → r ≡ Err e → record { step = Err e; cursor = c } ≡ step_by s c w a p
+    unfolding step_by spot_of
+    step_1 {e} h = go (check_of s (length_of c.place)) (sym spots ∙ h)
+      where
+        go : (q : Checked) → when q (λ x. Err x) walked_for ≡ Err e → leaves_it e c ≡ when q (λ x. leaves_it x c) (moved_to c p (walked_to s walked_for))
+        go (Err x) f = cc
+        go (Ok u) f =
+            let bad : e ≡ error.Bad = subst (Ends s) f (walk_lies w a (key_of c (length_of c.place)) s) in
+            ap (λ (x : WalkError). leaves_it x c) bad ∙ ap (λ (z : Ended). moved_to c p (walked_to s z)) (sym f)
 
-        pub step_bad : {r : Stepped} → w ≡ candidate.Bad → r ≡ leaves_it step.Bad c → r ≡ step_by s c t a p
-        step_bad e q = q ∙ sym (moves ∙ ap (λ (v : Candidate). moved_to c p (walked_to s v)) e)
+    module _ {y : Candidate} (h : r ≡ Ok y) where
+      step_walks : walked_for ≡ Ok y
+      unfolding spot_of
+      step_walks = go (check_of s (length_of c.place)) (sym spots ∙ h)
+        where
+          go : (q : Checked) → when q (λ x. Err x) walked_for ≡ Ok y → walked_for ≡ Ok y
+          go (Err x) f = cc
+          go (Ok u) f = f
 
-        pub step_none : {r : Stepped} → w ≡ candidate.Nothing → r ≡ moves_it step.Nothing p (replicate 288 0) → r ≡ step_by s c t a p
-        step_none e q =
-            q ∙ ap (moves_it step.Nothing p) empty_key
-            ∙ sym (moves ∙ ap (λ (v : Candidate). moved_to c p (walked_to s v)) e)
+      step_moves : moved_to c p (kept_to s y) ≡ step_by s c w a p
+      unfolding step_by spot_of
+      step_moves = go (check_of s (length_of c.place)) (sym spots ∙ h)
+        where
+          go : (q : Checked) → when q (λ x. Err x) walked_for ≡ Ok y → moved_to c p (kept_to s y) ≡ when q (λ x. leaves_it x c) (moved_to c p (walked_to s walked_for))
+          go (Err x) f = cc
+          go (Ok u) f = ap (λ (z : Ended). moved_to c p (walked_to s z)) (sym f)
 
-        pub step_entry : {r : Stepped} {x : place.Spot} {bytes o : List ℕ} → w ≡ candidate.At x → bytes ≡ raw_in s x.child.0 → o ≡ copy_at (replicate 288 0) 0 bytes x.start x.len
-            → r ≡ moves_it (step.Entry x.value) (At x.len) o → r ≡ step_by s c t a p
-        step_entry {r} {x} {bytes} {o} e there copies moved =
-            let lies : Lies s (candidate.At x) = subst (Lies s) (sym walks ∙ e) (walk_lies t a (take n c.key) s) in
-            let k : Key = part (bytes_in s x.child.0) x.start x.len in
-            let q : o ≡ padded 288 0 k = copied_key (bytes_in s x.child.0) x.start x.len lies.0 lies.1 (rw there at copies ∙ copied_raw s x.child.0 x.start x.len (replicate 288 0) lies.0) in
-            let m : x.len ≡ length k = sym (length_part (bytes_in s x.child.0) x.start x.len lies.0) in
-            moved ∙ (λ i. moves_it (step.Entry x.value) (At (m i)) (q i))
-            ∙ sym (moves ∙ ap (λ (v : Candidate). moved_to c p (walked_to s v)) e)
+      step_lies : Lies s y
+      step_lies = subst (Ends s) step_walks (walk_lies w a (key_of c (length_of c.place)) s)
+
+    pub step_2 : {m : Stepped} {y : Candidate} → r ≡ Ok y → y ≡ None → m ≡ moves_it None p (replicate 288 0) → m ≡ step_by s c w a p
+    step_2 g e q = let h : r ≡ Ok None = g ∙ ap keep e in q ∙ ap (moves_it None p) empty_key ∙ step_moves h
+
+    pub step_3 : {m : Stepped} {x z : place.Spot} {bytes o : List ℕ} {y : Candidate} → r ≡ Ok y → y ≡ Some z → x ≡ z → bytes ≡ raw_in s x.child.0 → o ≡ copy_at (replicate 288 0) 0 bytes x.start x.len
+        → m ≡ moves_it (Some x.value) (At x.len) o → m ≡ step_by s c w a p
+    step_3 {m} {x} {z} {bytes} {o} g e same there copies moved =
+        let h : r ≡ Ok (Some x) = g ∙ ap keep (e ∙ ap some_spot (sym same)) in
+        let lies : Lies s (Some x) = step_lies h in
+        let k : Key = part (bytes_in s x.child.0) x.start x.len in
+        let q : o ≡ padded 288 0 k = copied_key (bytes_in s x.child.0) x.start x.len lies.0 lies.1 (rw there at copies ∙ copied_raw s x.child.0 x.start x.len (replicate 288 0) lies.0) in
+        let l : x.len ≡ length k = sym (length_part (bytes_in s x.child.0) x.start x.len lies.0) in
+        moved ∙ (λ i. moves_it (Some x.value) (At (l i)) (q i)) ∙ step_moves h
 
 -- ---- a step from each place
 
@@ -666,50 +742,51 @@ module _ (s : List ℕ) (c : Cursor) where
   is_long_lem (Seeked n) = refl
 
   -- the walk from the root with a turn that is somewhere
-  root_there : (t : Turn) (k : Key) → is_nowhere t ≡ false
-      → walked_to s (walk_of t There k s) ≡ pick (eqb (root_of s) 0) (walked none) (forward_from (passed t k) (suc (depth_of s)) s (root_of s) none)
+  root_there : (t : Turn) (k : Key)
+      → walked_to s (walk_of (Some t) There k s) ≡ pick (eqb (root_of s) 0) (walked none) (forward_from (passed t k) (suc (depth_of s)) s (root_of s) none)
   unfolding walk_of
-  root_there t k n =
+  root_there t k =
       by_bool (eqb (root_of s) 0)
       (λ e. ap (walked_to s) (pick_t _ _ e) ∙ sym (pick_t _ _ e))
-      (λ e. ap (walked_to s) (pick_f _ _ e ∙ pick_f _ _ n) ∙ there_is s t k (suc (depth_of s)) (child_of (root_of s)) candidate.Nothing none refl ∙ sym (pick_f _ _ e))
+      (λ e. ap (walked_to s) (pick_f _ _ e) ∙ there_is s t k (suc (depth_of s)) (child_of (root_of s)) None none refl ∙ sym (pick_f _ _ e))
 
-  root_before : (t : Turn) (k : Key) → is_nowhere t ≡ false
-      → walked_to s (walk_of t Before k s) ≡ pick (eqb (root_of s) 0) (walked none) (backward_from (passed t k) (suc (depth_of s)) s (root_of s) none)
+  root_before : (t : Turn) (k : Key)
+      → walked_to s (walk_of (Some t) Before k s) ≡ pick (eqb (root_of s) 0) (walked none) (backward_from (passed t k) (suc (depth_of s)) s (root_of s) none)
   unfolding walk_of
-  root_before t k n =
+  root_before t k =
       by_bool (eqb (root_of s) 0)
       (λ e. ap (walked_to s) (pick_t _ _ e) ∙ sym (pick_t _ _ e))
-      (λ e. ap (walked_to s) (pick_f _ _ e ∙ pick_f _ _ n) ∙ before_walk s t k (suc (depth_of s)) (child_of (root_of s)) candidate.Nothing none refl ∙ sym (pick_f _ _ e))
+      (λ e. ap (walked_to s) (pick_f _ _ e) ∙ before_walk s t k (suc (depth_of s)) (child_of (root_of s)) None none refl ∙ sym (pick_f _ _ e))
 
-  -- one that is nowhere reads no node
-  root_nowhere : (a : Aim) (k : Key) → walked_to s (walk_of Nowhere a k s) ≡ pick (eqb (root_of s) 0) (walked none) (walked none)
+  -- with none it reads no node
+  root_nowhere : (a : Aim) (k : Key) → walked_to s (walk_of None a k s) ≡ pick (eqb (root_of s) 0) (walked none) (walked none)
   unfolding walk_of
   root_nowhere a k =
       by_bool (eqb (root_of s) 0)
       (λ e. ap (walked_to s) (pick_t _ _ e) ∙ sym (pick_t _ _ e))
-      (λ e. ap (walked_to s) (pick_f _ _ e ∙ pick_t _ _ refl) ∙ sym (pick_f _ _ e))
+      (λ e. ap (walked_to s) (pick_f _ _ e) ∙ sym (pick_f _ _ e))
 
   forward_from_lem : (p : Place) → walked_to s (walk_of (turn_forward p) There (key_of c (length_of p)) s) ≡ pick (eqb (root_of s) 0) (walked none) (walk_forward s c p)
-  forward_from_lem Start = root_there First (key_of c 0) refl
+  forward_from_lem Start = root_there First (key_of c 0)
   forward_from_lem End = root_nowhere There (key_of c 0)
-  forward_from_lem (At n) = root_there Above (key_of c n) refl
-  forward_from_lem (Seeked n) = root_there NotBelow (key_of c n) refl
+  forward_from_lem (At n) = root_there Above (key_of c n)
+  forward_from_lem (Seeked n) = root_there NotBelow (key_of c n)
 
   backward_from_lem : (p : Place) → walked_to s (walk_of (turn_backward p) Before (key_of c (length_of p)) s) ≡ pick (eqb (root_of s) 0) (walked none) (walk_backward s c p)
   backward_from_lem Start = root_nowhere Before (key_of c 0)
-  backward_from_lem End = root_before Last (key_of c 0) refl
-  backward_from_lem (At n) = root_before NotBelow (key_of c n) refl
-  backward_from_lem (Seeked n) = root_before Above (key_of c n) refl
+  backward_from_lem End = root_before Last (key_of c 0)
+  backward_from_lem (At n) = root_before NotBelow (key_of c n)
+  backward_from_lem (Seeked n) = root_before Above (key_of c n)
 
-  stepped_is : (t : Turn) (a : Aim) (p : Place) (w : Walked) → walked_to s (walk_of t a (key_of c (length_of c.place)) s) ≡ pick (eqb (root_of s) 0) (walked none) w → step_by s c t a p ≡ stepped_of s c p w
+  stepped_is : (t : Way) (a : Aim) (p : Place) (w : Walked) → walked_to s (walk_of t a (key_of c (length_of c.place)) s) ≡ pick (eqb (root_of s) 0) (walked none) w → step_by s c t a p ≡ stepped_of s c p w
   unfolding step_by stepped_of
-  stepped_is t a p w e = rw (is_long_lem c.place, e)
+  stepped_is t a p w e =
+      check_is s (length_of c.place) (λ x. leaves_it x c) (moved_to c p (walked_to s (walk_of t a (key_of c (length_of c.place)) s))) ∙ rw (is_long_lem c.place, e)
 
-  pub forward_1 : {t : Turn} {r : Stepped} → t ≡ turn_forward c.place → r ≡ step_by s c t There End → r ≡ forward_of s c
+  pub forward_1 : {t : Way} {r : Stepped} → t ≡ turn_forward c.place → r ≡ step_by s c t There End → r ≡ forward_of s c
   unfolding forward_of
-  forward_1 e q = q ∙ ap (λ (t : Turn). step_by s c t There End) e ∙ stepped_is (turn_forward c.place) There End (walk_forward s c c.place) (forward_from_lem c.place)
+  forward_1 e q = q ∙ ap (λ (t : Way). step_by s c t There End) e ∙ stepped_is (turn_forward c.place) There End (walk_forward s c c.place) (forward_from_lem c.place)
 
-  pub backward_1 : {t : Turn} {r : Stepped} → t ≡ turn_backward c.place → r ≡ step_by s c t Before Start → r ≡ backward_of s c
+  pub backward_1 : {t : Way} {r : Stepped} → t ≡ turn_backward c.place → r ≡ step_by s c t Before Start → r ≡ backward_of s c
   unfolding backward_of
-  backward_1 e q = q ∙ ap (λ (t : Turn). step_by s c t Before Start) e ∙ stepped_is (turn_backward c.place) Before Start (walk_backward s c c.place) (backward_from_lem c.place)
+  backward_1 e q = q ∙ ap (λ (t : Way). step_by s c t Before Start) e ∙ stepped_is (turn_backward c.place) Before Start (walk_backward s c c.place) (backward_from_lem c.place)

@@ -3,6 +3,7 @@ use mathlib.Core.Path.{◌≡◌, refl, sym, ap, subst, ◌∙◌}
 use mathlib.Core.List.{List, []}
 use mathlib.Core.Bool.{Bool, true, false}
 use mathlib.Core.Option.{none, some}
+use Rattle.std.specs.Prelude.{None, Ok}
 use Prim.Native.Nat.{ℕ, suc, ◌-◌, ◌≤◌, ◌<◌}
 use lib.ListN.{length, drop, replicate}
 use lib.Seq.{drop_at}
@@ -20,7 +21,6 @@ use Rattle.slots.specs.Layout.{is_store, root_of, depth_of}
 use Rattle.iter.specs.declared.Place.{Place}
 use Rattle.iter.specs.declared.Place.TheVariants.{Start, End, At, Seeked}
 use Rattle.iter.specs.declared.Cursor.{Cursor}
-use Rattle.iter.specs.declared.Step.TheVariants as step
 use Rattle.iter.specs.declared.Stepped.{Stepped}
 use Rattle.iter.specs.declared.Sought.{Sought}
 use Rattle.iter.specs.Walk.{Walked, bad, walked, forward_from, backward_from}
@@ -147,16 +147,16 @@ module _ (s : List ℕ) (c d : Cursor) where
 -- ---- no node is read
 
 module _ (s : List ℕ) (c : Cursor) (store : is_store s ≡ true) (shallow : depth_of s ≤ most_depth) where
-  nothing_read : (p : Place) → is_long c.place ≡ false → stepped_of s c p (walked none) ≡ record { step = step.Nothing; cursor = cursor_with p [] }
+  nothing_read : (p : Place) → is_long c.place ≡ false → stepped_of s c p (walked none) ≡ record { step = Ok None; cursor = cursor_with p [] }
   unfolding stepped_of
   nothing_read p l =
       pick_t _ _ store ∙ pick_f _ _ l ∙ pick_f _ _ (le-ltb most_depth (depth_of s) shallow)
       ∙ ap (moved_to c p) (by_test (λ (w : Walked). w ≡ walked none) (eqb (root_of s) 0) (λ e. refl) (λ e. refl))
 
-  pub end_forward : c.place ≡ End → forward_of s c ≡ record { step = step.Nothing; cursor = cursor_with End [] }
+  pub end_forward : c.place ≡ End → forward_of s c ≡ record { step = Ok None; cursor = cursor_with End [] }
   unfolding forward_of
   end_forward e = ap (λ (p : Place). stepped_of s c End (walk_forward s c p)) e ∙ nothing_read End (rw e)
 
-  pub start_backward : c.place ≡ Start → backward_of s c ≡ record { step = step.Nothing; cursor = cursor_with Start [] }
+  pub start_backward : c.place ≡ Start → backward_of s c ≡ record { step = Ok None; cursor = cursor_with Start [] }
   unfolding backward_of
   start_backward e = ap (λ (p : Place). stepped_of s c Start (walk_backward s c p)) e ∙ nothing_read Start (rw e)

@@ -7,6 +7,7 @@ use mathlib.Core.Logic.{◌⊎◌, inl, inr}
 use mathlib.Core.List.{List, [], ◌∷◌}
 use mathlib.Core.Bool.{Bool, true, false, cond, ◌&&◌, not}
 use mathlib.Core.Option.{Option, none, some}
+use Rattle.std.specs.Prelude.{None, Ok, Err}
 use Prim.Native.Nat.{ℕ, zero, suc}
 use lib.ListN.{length}
 use lib.Dec.{ltb, eqb}
@@ -29,10 +30,9 @@ use Rattle.slots.specs.Code.{when_fit, read_node_at}
 use Rattle.iter.specs.declared.Place.{Place}
 use Rattle.iter.specs.declared.Place.TheVariants.{Start, End, At, Seeked}
 use Rattle.iter.specs.declared.Cursor.{Cursor}
-use Rattle.iter.specs.declared.Step.TheVariants as step
 use Rattle.iter.specs.declared.Stepped.{Stepped}
-use Rattle.iter.specs.declared.LookedUp.{LookedUp}
-use Rattle.iter.specs.declared.LookedUp.TheVariants.{Absent, NotStore, LongKey, Bad}
+use Rattle.iter.specs.declared.WalkError.TheVariants.{NotStore, LongKey, Bad}
+use Rattle.iter.specs.Answer.{Answer}
 use Rattle.iter.specs.Walk.{lookup_number, found_here, look_on, look_from, lookup_of, Walked, bad, walked, on_forward, on_backward, forward_from, backward_from}
 use Rattle.iter.specs.Cursor.{step_number, is_long, passed_forward, passed_backward, moved_to, stepped_of, walk_forward, walk_backward, forward_of, backward_of}
 
@@ -73,8 +73,8 @@ is_start (Seeked n) = false
 
 -- the texts of Walk and Cursor with `read` in place of `read_node_at`: over that one they are those calls (`lookup_by_lem` and on)
 module _ (read : ℕ → List ℕ → ℕ → Option (Node ℕ ℕ)) where
-  unfoldable pub look_by : Key → ℕ → List ℕ → ℕ → LookedUp
-  look_by k zero s x = Absent
+  unfoldable pub look_by : Key → ℕ → List ℕ → ℕ → Answer
+  look_by k zero s x = Ok None
   look_by k (suc d) s x = look_on k (look_by k d s) (read d s x)
 
   unfoldable pub forward_by : (Sep ℕ → Bool) → ℕ → List ℕ → ℕ → Option (Sep ℕ) → Walked
@@ -85,14 +85,14 @@ module _ (read : ℕ → List ℕ → ℕ → Option (Node ℕ ℕ)) where
   backward_by p zero s x c = walked c
   backward_by p (suc d) s x c = on_backward p (backward_by p d s) c (read d s x)
 
-  unfoldable pub lookup_by : List ℕ → Key → LookedUp
+  unfoldable pub lookup_by : List ℕ → Key → Answer
   lookup_by s k =
       pick (is_store s)
-      (pick (ltb longest_key (length k)) LongKey
-      (pick (ltb most_depth (depth_of s)) Bad
-      (pick (eqb (root_of s) 0) Absent
+      (pick (ltb longest_key (length k)) (Err LongKey)
+      (pick (ltb most_depth (depth_of s)) (Err Bad)
+      (pick (eqb (root_of s) 0) (Ok None)
       (look_by k (suc (depth_of s)) s (root_of s)))))
-      NotStore
+      (Err NotStore)
 
   unfoldable pub stepped_forward_by : List ℕ → Cursor → Stepped
   stepped_forward_by s c =
@@ -103,7 +103,7 @@ module _ (read : ℕ → List ℕ → ℕ → Option (Node ℕ ℕ)) where
       stepped_of s c Start (pick (is_start c.place) (walked none) (backward_by (passed_backward c c.place) (suc (depth_of s)) s (root_of s) none))
 
 -- the calls as they were
-abbrev pub lenient_lookup : List ℕ → Key → LookedUp
+abbrev pub lenient_lookup : List ℕ → Key → Answer
 lenient_lookup = lookup_by lenient_at
 
 abbrev pub lenient_forward_of : List ℕ → Cursor → Stepped
@@ -248,16 +248,16 @@ module _ (s : List ℕ) where
       (λ e. record { is = ap new (sloppy_at s x d e) ∙ z ∙ sym (pick_t _ _ (rw e)) })
       (λ e. record { is = ap new (same_at s x d e) ∙ rw e (h (lenient_at d s x)).is })
 
-  here_agrees : (k : Key) (old new : LookedUp) (l : List ℕ) (r : List Step) → Agrees Bad l old new → Agrees Bad (cond (stops_at k r) [] l) (found_here k old r) (found_here k new r)
+  here_agrees : (k : Key) (old new : Answer) (l : List ℕ) (r : List Step) → Agrees (Err Bad) l old new → Agrees (Err Bad) (cond (stops_at k r) [] l) (found_here k old r) (found_here k new r)
   here_agrees k old new l [] h = h
-  here_agrees k old new l (y ∷ r) h = by_bool (same k y.0) (λ e. rw e (none_read Bad _)) (λ e. rw e h)
+  here_agrees k old new l (y ∷ r) h = by_bool (same k y.0) (λ e. rw e (none_read (Err Bad) _)) (λ e. rw e h)
 
-  look_agrees : (k : Key) (d x : ℕ) → Agrees Bad (reads_from (below k) (stops_at k) d s x) (look_by lenient_at k d s x) (look_from k d s x)
+  look_agrees : (k : Key) (d x : ℕ) → Agrees (Err Bad) (reads_from (below k) (stops_at k) d s x) (look_by lenient_at k d s x) (look_from k d s x)
   unfolding reads_from look_by look_from
-  look_agrees k zero x = none_read Bad Absent
+  look_agrees k zero x = none_read (Err Bad) (Ok None)
   look_agrees k (suc d) x =
-      turn Bad d x (look_on k (look_by lenient_at k d s)) (look_on k (look_from k d s)) (reads_on (below k) (stops_at k) (reads_from (below k) (stops_at k) d s)) refl
-      (elim [ none ↦ none_read Bad Bad | some m ↦ here_agrees k _ _ _ (at (below k) m).rgt (look_agrees k d (at (below k) m).mid) ])
+      turn (Err Bad) d x (look_on k (look_by lenient_at k d s)) (look_on k (look_from k d s)) (reads_on (below k) (stops_at k) (reads_from (below k) (stops_at k) d s)) refl
+      (elim [ none ↦ none_read (Err Bad) (Err Bad) | some m ↦ here_agrees k _ _ _ (at (below k) m).rgt (look_agrees k d (at (below k) m).mid) ])
 
   module _ (p : Sep ℕ → Bool) where
     forward_agrees : (d x : ℕ) (c : Option (Sep ℕ)) → Agrees bad (reads_from p stops_nowhere d s x) (forward_by lenient_at p d s x c) (forward_from p d s x c)
@@ -284,15 +284,15 @@ module _ (s : List ℕ) where
   either false h g = g
 
   moved_agrees : (c : Cursor) (p : Place) (l : List ℕ) (old new : Walked) → Agrees bad l old new
-      → Agrees (record { step = step.Bad; cursor = c }) l (moved_to c p old) (moved_to c p new)
+      → Agrees (record { step = Err Bad; cursor = c }) l (moved_to c p old) (moved_to c p new)
   moved_agrees c p l old new h = record { is = ap (moved_to c p) h.is ∙ go (any_sloppy s l) }
     where
-      go : (b : Bool) → moved_to c p (pick b bad old) ≡ pick b (record { step = step.Bad; cursor = c }) (moved_to c p old)
+      go : (b : Bool) → moved_to c p (pick b bad old) ≡ pick b (record { step = Err Bad; cursor = c }) (moved_to c p old)
       go true = unfold pick in refl
       go false = unfold pick in refl
 
   stepped_agrees : (c : Cursor) (p : Place) (l : List ℕ) (old new : Walked) → Agrees bad l old new
-      → Agrees (record { step = step.Bad; cursor = c }) (reads_of s (is_long c.place) l) (stepped_of s c p old) (stepped_of s c p new)
+      → Agrees (record { step = Err Bad; cursor = c }) (reads_of s (is_long c.place) l) (stepped_of s c p old) (stepped_of s c p new)
   unfolding reads_of stepped_of
   stepped_agrees c p l old new h =
       either (is_store s)
@@ -321,7 +321,7 @@ module _ (s : List ℕ) where
   look_by_lem : (k : Key) (d : ℕ) → look_from k d s ≡ look_by read_node_at k d s
   unfolding look_from look_by
   look_by_lem k zero = refl
-  look_by_lem k (suc d) = fun_ext (λ x. ap (λ (f : ℕ → LookedUp). look_on k f (read_node_at d s x)) (look_by_lem k d))
+  look_by_lem k (suc d) = fun_ext (λ x. ap (λ (f : ℕ → Answer). look_on k f (read_node_at d s x)) (look_by_lem k d))
 
   module _ (p : Sep ℕ → Bool) where
     forward_by_lem : (d : ℕ) → forward_from p d s ≡ forward_by read_node_at p d s
@@ -349,10 +349,10 @@ module _ (s : List ℕ) where
 -- ---- 02, C-16: "only lookup and cursor answers on unaudited stores change": how, on any bytes
 
 -- where no slot that the call reads is sloppy the answer is the old one, else it is 8; the cursor then stays
-pub lookup_strict : (s : List ℕ) (k : Key) → lookup_of s k ≡ pick (any_sloppy s (lookup_reads s k)) Bad (lenient_lookup s k)
+pub lookup_strict : (s : List ℕ) (k : Key) → lookup_of s k ≡ pick (any_sloppy s (lookup_reads s k)) (Err Bad) (lenient_lookup s k)
 lookup_strict s k = agrees.is
   where
-    agrees : Agrees s Bad (lookup_reads s k) (lenient_lookup s k) (lookup_of s k)
+    agrees : Agrees s (Err Bad) (lookup_reads s k) (lenient_lookup s k) (lookup_of s k)
     agrees =
         unfold lookup_of lookup_reads reads_of lookup_by in
         either s (is_store s)
@@ -361,13 +361,13 @@ lookup_strict s k = agrees.is
         (either s (eqb (root_of s) 0) (none_read s _ _) (look_agrees s k (suc (depth_of s)) (root_of s)))))
         (none_read s _ _)
 
-pub forward_strict : (s : List ℕ) (c : Cursor) → forward_of s c ≡ pick (any_sloppy s (forward_reads s c)) (record { step = step.Bad; cursor = c }) (lenient_forward_of s c)
+pub forward_strict : (s : List ℕ) (c : Cursor) → forward_of s c ≡ pick (any_sloppy s (forward_reads s c)) (record { step = Err Bad; cursor = c }) (lenient_forward_of s c)
 unfolding forward_of forward_reads stepped_forward_by
 forward_strict s c =
     ap (stepped_of s c End) (forward_place s c c.place)
     ∙ (stepped_agrees s c End _ _ _ (either s (is_end c.place) (none_read s _ _) (forward_agrees s (passed_forward c c.place) (suc (depth_of s)) (root_of s) none))).is
 
-pub backward_strict : (s : List ℕ) (c : Cursor) → backward_of s c ≡ pick (any_sloppy s (backward_reads s c)) (record { step = step.Bad; cursor = c }) (lenient_backward_of s c)
+pub backward_strict : (s : List ℕ) (c : Cursor) → backward_of s c ≡ pick (any_sloppy s (backward_reads s c)) (record { step = Err Bad; cursor = c }) (lenient_backward_of s c)
 unfolding backward_of backward_reads stepped_backward_by
 backward_strict s c =
     ap (stepped_of s c Start) (backward_place s c c.place)

@@ -6,6 +6,7 @@ use mathlib.Core.Path.{◌≡◌, sym, ap, ◌∙◌}
 use mathlib.Core.List.{List, [], reverse}
 use mathlib.Core.Bool.{true, false}
 use mathlib.Core.Option.{some}
+use Rattle.std.specs.Prelude.{None, Ok}
 use Prim.Native.Nat.{ℕ, ◌≤◌, ◌<◌}
 use lib.ListN.{length, take}
 use Rattle.word.specs.Key.{Key}
@@ -22,10 +23,9 @@ use Rattle.slots.proofs.AuditedLaws.{audited_entries}
 use Rattle.iter.specs.declared.Place.{Place}
 use Rattle.iter.specs.declared.Place.TheVariants.{Start, End}
 use Rattle.iter.specs.declared.Cursor.{Cursor}
-use Rattle.iter.specs.declared.LookedUp.{LookedUp}
-use Rattle.iter.specs.declared.Step.TheVariants.{Nothing}
 use Rattle.iter.specs.declared.Sought.{Sought}
 use Rattle.iter.specs.declared.Stepped.{Stepped}
+use Rattle.iter.specs.Answer.{Answer}
 use Rattle.iter.specs.Walk.{walked, lookup_of}
 use Rattle.iter.specs.Cursor.{cursor_with, sought_number, sought_of, is_long, moved_to, forward_of, backward_of}
 use Rattle.iter.proofs.Walks.{answered, placed, place_of, key_in, lookup_is, forward_is_next, backward_is_previous, forwards_of, backwards_of, forwards_are, backwards_are}
@@ -97,10 +97,10 @@ backward_ignores_rest = backward_ignores
 
 -- "Forward End and backward Start answer none after refusals 1, 4 and a depth above 7, reading no node": whatever stands in the
 -- slots
-pub forward_from_end : (s : List ℕ) (c : Cursor) → is_store s ≡ true → depth_of s ≤ most_depth → c.place ≡ End → forward_of s c ≡ record { step = Nothing; cursor = cursor_with End [] }
+pub forward_from_end : (s : List ℕ) (c : Cursor) → is_store s ≡ true → depth_of s ≤ most_depth → c.place ≡ End → forward_of s c ≡ record { step = Ok None; cursor = cursor_with End [] }
 forward_from_end = end_forward
 
-pub backward_from_start : (s : List ℕ) (c : Cursor) → is_store s ≡ true → depth_of s ≤ most_depth → c.place ≡ Start → backward_of s c ≡ record { step = Nothing; cursor = cursor_with Start [] }
+pub backward_from_start : (s : List ℕ) (c : Cursor) → is_store s ≡ true → depth_of s ≤ most_depth → c.place ≡ Start → backward_of s c ≡ record { step = Ok None; cursor = cursor_with Start [] }
 backward_from_start = start_backward
 
 -- ---- two results that a contract allows are the same, refusals and the cursor's bytes included
@@ -108,7 +108,7 @@ backward_from_start = start_backward
 once : {A : Type 0} {x y z : A} → x ≡ z → y ≡ z → x ≡ y
 once p q = p ∙ sym q
 
-pub lookup_once : (s : List ℕ) (k : Key) {r q : LookedUp} → r ≡ lookup_of s k → q ≡ lookup_of s k → r ≡ q
+pub lookup_once : (s : List ℕ) (k : Key) {r q : Answer} → r ≡ lookup_of s k → q ≡ lookup_of s k → r ≡ q
 lookup_once s k p q = once p q
 
 pub seek_once : (k : Key) {r q : Sought} → r ≡ sought_of k → q ≡ sought_of k → r ≡ q

@@ -4,6 +4,7 @@ use mathlib.Core.Path.{◌≡◌, refl, ap, ◌∙◌}
 use mathlib.Core.List.{List, [], ◌∷◌, ◌++◌}
 use mathlib.Core.Bool.{Bool, false, cond}
 use mathlib.Core.Option.{Option, none, some}
+use Rattle.std.specs.Prelude.{Some, None, Ok, Err}
 use Prim.Native.Nat.{ℕ, zero, suc, ◌-◌, ◌^◌, ◌≤◌, ◌<◌}
 use lib.ListN.{length, take, replicate}
 use lib.Seq.{take_at}
@@ -36,11 +37,8 @@ use Rattle.slots.proofs.AuditedLaws.{audited_store, audited_shallow, audited_ris
 use Rattle.iter.specs.declared.Place.{Place}
 use Rattle.iter.specs.declared.Place.TheVariants.{Start, End, At, Seeked}
 use Rattle.iter.specs.declared.Cursor.{Cursor}
-use Rattle.iter.specs.declared.Step as answer
-use Rattle.iter.specs.declared.Step.TheVariants as step
 use Rattle.iter.specs.declared.Stepped.{Stepped}
-use Rattle.iter.specs.declared.LookedUp.{LookedUp}
-use Rattle.iter.specs.declared.LookedUp.TheVariants.{Found, Absent}
+use Rattle.iter.specs.Answer.{Answer}
 use Rattle.iter.specs.Walk.{found_here, look_from, lookup_of, Walked, walked, forward_from, backward_from}
 use Rattle.iter.specs.Cursor.{cursor_with, is_long, key_of, moved_to, stepped_of, walk_forward, walk_backward, forward_of, backward_of}
 
@@ -72,11 +70,11 @@ module _ {A C D : Type 0} (f : C → D) where
 -- ---- lookup's answer
 
 -- the map's value as lookup answers it
-abbrev pub answered : Option ℕ → LookedUp
-answered none = Absent
-answered (some v) = Found (value_of v)
+abbrev pub answered : Option ℕ → Answer
+answered none = Ok None
+answered (some v) = Ok (Some (value_of v))
 
-here_look : {C : Type 0} (f : C → ℕ) (k : Key) (b : LookedUp) (o : Option ℕ) (r : List (Sep ℕ × C)) → b ≡ answered o → found_here k b (map_right f r) ≡ answered (look_here k o r)
+here_look : {C : Type 0} (f : C → ℕ) (k : Key) (b : Answer) (o : Option ℕ) (r : List (Sep ℕ × C)) → b ≡ answered o → found_here k b (map_right f r) ≡ answered (look_here k o r)
 here_look f k b o [] e = e
 here_look f k b o (x ∷ r) e = by_bool (same k x.0) (λ t. rw t) (λ t. rw t e)
 
@@ -224,7 +222,7 @@ module _ (n : ℕ) (small : n < 2 ^ 32) (s : List ℕ) where
     backward_places c (At m) = backward_root (below (key_of c m))
     backward_places c (Seeked m) = backward_root (not_above (key_of c m))
 
-  look_store : (k : Key) (st : Store ℕ) → Stands n s st → GoodStore n st → pick (eqb (root_of s) 0) Absent (look_from k (suc (depth_of s)) s (root_of s)) ≡ answered (lookup k st)
+  look_store : (k : Key) (st : Store ℕ) → Stands n s st → GoodStore n st → pick (eqb (root_of s) 0) (Ok None) (look_from k (suc (depth_of s)) s (root_of s)) ≡ answered (lookup k st)
   look_store k (bare fs) h g = no_root _ _ fs h
   look_store k (rooted t) h g = at_root t h g _ _ ∙ look_root t h g k
 
@@ -246,12 +244,10 @@ key_in c End = []
 key_in c (At n) = key_of c n
 key_in c (Seeked n) = key_of c n
 
-abbrev pub met : answer.Step → Cursor → List (Sep ℕ) → List (Sep ℕ)
-met (step.Entry v) c es = record { key = key_in c c.place; val = v.0 } ∷ es
-met step.Nothing c es = []
-met step.NotStore c es = []
-met step.LongKey c es = []
-met step.Bad c es = []
+abbrev pub met : Answer → Cursor → List (Sep ℕ) → List (Sep ℕ)
+met (Ok (Some v)) c es = record { key = key_in c c.place; val = v.0 } ∷ es
+met (Ok None) c es = []
+met (Err e) c es = []
 
 abbrev pub forwards_of : ℕ → List ℕ → Cursor → List (Sep ℕ)
 forwards_of zero s c = []

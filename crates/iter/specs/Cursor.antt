@@ -1,6 +1,7 @@
 -- 01, "Lookup and cursor": the cursor, seeking, and a step from every place. Assumes nothing.
-use Rattle.std.specs.Prelude.{List, [], Bool, true, false, ℕ, suc, length, take, ltb, eqb}
+use Rattle.std.specs.Prelude.{List, [], Bool, true, false, ℕ, suc, length, take, ltb, eqb, Some, None, Ok, Err}
 use Rattle.std.proofs.Math.Option.{none, some}
+use Rattle.refusal.specs.Number.{answer_number}
 use Rattle.word.specs.Pick.{pick}
 use Rattle.word.specs.Key.{Key}
 use Rattle.tree.specs.Map.{Sep}
@@ -12,10 +13,10 @@ use Rattle.slots.specs.Layout.{is_store, root_of, depth_of}
 use Rattle.iter.specs.declared.Place.{Place}
 use Rattle.iter.specs.declared.Place.TheVariants.{Start, End, At, Seeked}
 use Rattle.iter.specs.declared.Cursor.{Cursor}
-use Rattle.iter.specs.declared.Step.{Step}
-use Rattle.iter.specs.declared.Step.TheVariants.{Entry, Nothing, NotStore, LongKey, Bad}
+use Rattle.iter.specs.declared.WalkError.TheVariants.{NotStore, LongKey, Bad}
 use Rattle.iter.specs.declared.Stepped.{Stepped}
 use Rattle.iter.specs.declared.Sought.{Sought}
+use Rattle.iter.specs.Answer.{Answer, walk_error_number}
 use Rattle.iter.specs.Walk.{Walked, bad, walked, forward_from, backward_from}
 
 -- "The cursor is a place (Start, End, At length, Seeked length) beside a key array of 288 bytes"; "bytes past the key are ..
@@ -35,12 +36,8 @@ abbrev pub sought_number : Sought → ℕ
 sought_number r = pick r.accepted 0 4
 
 -- 01's numbers of a step
-abbrev pub step_number : Step → ℕ
-step_number (Entry v) = 0
-step_number Nothing = 0
-step_number NotStore = 1
-step_number LongKey = 4
-step_number Bad = 8
+abbrev pub step_number : Answer → ℕ
+step_number = answer_number walk_error_number
 
 -- "4 | key (or cursor length) over 288": Start and End have no length
 abbrev pub is_long : Place → Bool
@@ -69,18 +66,18 @@ passed_backward c (Seeked n) = not_above (key_of c n)
 
 -- "An entry moves the cursor to At; none moves it to End (forward) or Start (backward)."; a refusal leaves it as it was
 abbrev pub moved_to : Cursor → Place → Walked → Stepped
-moved_to c p bad = record { step = Bad; cursor = c }
-moved_to c p (walked none) = record { step = Nothing; cursor = cursor_with p [] }
-moved_to c p (walked (some e)) = record { step = Entry (value_of e.val); cursor = cursor_with (At (length e.key)) e.key }
+moved_to c p bad = record { step = Err Bad; cursor = c }
+moved_to c p (walked none) = record { step = Ok None; cursor = cursor_with p [] }
+moved_to c p (walked (some e)) = record { step = Ok (Some (value_of e.val)); cursor = cursor_with (At (length e.key)) e.key }
 
 -- "1, 4, 8"; "A depth above 7 is 8, root or not; otherwise no root means .. none"; w is the walk from the root
 unfoldable pub stepped_of : List ℕ → Cursor → Place → Walked → Stepped
 stepped_of s c p w =
     pick (is_store s)
-    (pick (is_long c.place) (record { step = LongKey; cursor = c })
-    (pick (ltb most_depth (depth_of s)) (record { step = Bad; cursor = c })
+    (pick (is_long c.place) (record { step = Err LongKey; cursor = c })
+    (pick (ltb most_depth (depth_of s)) (record { step = Err Bad; cursor = c })
     (moved_to c p (pick (eqb (root_of s) 0) (walked none) w))))
-    (record { step = NotStore; cursor = c })
+    (record { step = Err NotStore; cursor = c })
 
 -- "Forward End and backward Start answer none after refusals 1, 4 and a depth above 7, reading no node."
 abbrev pub walk_forward : List ℕ → Cursor → Place → Walked

@@ -1,3 +1,4 @@
+pub mod Answer
 pub mod Walk
 pub mod Cursor
 pub mod Mirror

@@ -1,6 +1,7 @@
 -- 01, "Lookup and cursor": the walks on any bytes. "A walk reads at most depth+1 nodes." Assumes nothing.
-use Rattle.std.specs.Prelude.{List, [], ◌∷◌, Bool, cond, ℕ, zero, suc, length, ltb, eqb}
+use Rattle.std.specs.Prelude.{List, [], ◌∷◌, Bool, cond, ℕ, zero, suc, length, ltb, eqb, Some, None, Ok, Err}
 use Rattle.std.proofs.Math.Option.{Option, none, some}
+use Rattle.refusal.specs.Number.{answer_number}
 use Rattle.word.specs.Pick.{pick}
 use Rattle.word.specs.Key.{Key}
 use Rattle.tree.specs.Map.{Sep}
@@ -10,44 +11,40 @@ use Rattle.node.specs.Chain.{Step, longest_key, value_of}
 use Rattle.slots.specs.Limits.{most_depth}
 use Rattle.slots.specs.Layout.{is_store, root_of, depth_of}
 use Rattle.slots.specs.Code.{read_node_at}
-use Rattle.iter.specs.declared.LookedUp.{LookedUp}
-use Rattle.iter.specs.declared.LookedUp.TheVariants.{Found, Absent, NotStore, LongKey, Bad}
+use Rattle.iter.specs.declared.WalkError.TheVariants.{NotStore, LongKey, Bad}
+use Rattle.iter.specs.Answer.{Answer, walk_error_number}
 
 -- ---- lookup
 
 -- 01's numbers; "'Absent' is its own answer."
-abbrev pub lookup_number : LookedUp → ℕ
-lookup_number (Found v) = 0
-lookup_number Absent = 0
-lookup_number NotStore = 1
-lookup_number LongKey = 4
-lookup_number Bad = 8
+abbrev pub lookup_number : Answer → ℕ
+lookup_number = answer_number walk_error_number
 
 -- the next separator's value if its key is k, else what is found below
-abbrev pub found_here : Key → LookedUp → List Step → LookedUp
+abbrev pub found_here : Key → Answer → List Step → Answer
 found_here k below [] = below
-found_here k below (x ∷ r) = cond (same k x.0) (Found (value_of x.0.val)) below
+found_here k below (x ∷ r) = cond (same k x.0) (Ok (Some (value_of x.0.val))) below
 
-abbrev pub look_on : Key → (ℕ → LookedUp) → Option (Node ℕ ℕ) → LookedUp
-look_on k rec none = Bad
+abbrev pub look_on : Key → (ℕ → Answer) → Option (Node ℕ ℕ) → Answer
+look_on k rec none = Err Bad
 look_on k rec (some m) = let z : Zip ℕ ℕ = at (below k) m in found_here k (rec z.mid) z.rgt
 
 -- "`position` compares separators from index 0." d levels are left; slot x stands on the highest of them. "A node read must
 -- have a slot number 1 to count, a length of 8 to 2,480, readable bytes and children that fit its depth (none at 0; separators
 -- plus one above); else 8."
-unfoldable pub look_from : Key → ℕ → List ℕ → ℕ → LookedUp
-look_from k zero s x = Absent
+unfoldable pub look_from : Key → ℕ → List ℕ → ℕ → Answer
+look_from k zero s x = Ok None
 look_from k (suc d) s x = look_on k (look_from k d s) (read_node_at d s x)
 
 -- "Lookup and cursor: 1, 4, 8." "A depth above 7 is 8, root or not; otherwise no root means absent"
-unfoldable pub lookup_of : List ℕ → Key → LookedUp
+unfoldable pub lookup_of : List ℕ → Key → Answer
 lookup_of s k =
     pick (is_store s)
-    (pick (ltb longest_key (length k)) LongKey
-    (pick (ltb most_depth (depth_of s)) Bad
-    (pick (eqb (root_of s) 0) Absent
+    (pick (ltb longest_key (length k)) (Err LongKey)
+    (pick (ltb most_depth (depth_of s)) (Err Bad)
+    (pick (eqb (root_of s) 0) (Ok None)
     (look_from k (suc (depth_of s)) s (root_of s)))))
-    NotStore
+    (Err NotStore)
 
 -- ---- a step's walk: bad bytes, or the last candidate
 

@@ -1,27 +1,35 @@
 // Lookup and cursor on the bytes of a store. Both go down from the root by one walk, `walk`, which reads a node's places
-// where they stand and builds no node; what it takes in each node is told by a `Turn` and an `Aim`.
+// where they stand and builds no node; what it takes in each node is told by a `Turn`, none where it reads no node, and an `Aim`.
 #![tactic(auto)]
 
-ghost use Rattle.std.specs.Prelude.{◌≡◌, suc};
-ghost use Rattle.iter.specs.Walk.{lookup_number, lookup_of};
-ghost use Rattle.iter.specs.Cursor.{sought_number, sought_of, step_number, forward_of, backward_of};
-ghost use Rattle.iter.specs.Mirror.{length_of, turn_forward, turn_backward, is_nowhere, in_node, stops_at, candidate_at, here_of, taken_of, walk_down, walk_of, leaves_it, moves_it, step_by};
+ghost use Rattle.std.specs.Prelude.{◌≡◌, suc, None};
+ghost use Rattle.iter.specs.Answer.{walk_error_number};
+ghost use Rattle.iter.specs.Walk.{lookup_of};
+ghost use Rattle.iter.specs.Cursor.{sought_number, sought_of, forward_of, backward_of};
+ghost use Rattle.iter.specs.Mirror.{length_of, turn_forward, turn_backward, stops_at, candidate_at, here_of, taken_of, walk_down, walk_of, check_of, spot_of, moves_it, step_by};
 
 use node::{Child, Value};
-use search::Sight;
+use refusal::Refusal;
+use search::{Sight, Turn};
 
-// What a lookup answers.
-#[derive(Clone, Copy)]
-pub enum LookedUp {
-    Found(Value),
-    Absent,
-    NotStore,
-    LongKey,
-    Bad,
+// Why a lookup or a step is refused, by 01's numbers.
+#[derive(Clone, Copy, PartialEq, Eq)]
+pub enum WalkError {
+    NotStore = 1,
+    LongKey = 4,
+    Bad = 8,
+}
+
+impl Refusal for WalkError {
+    ghost number_of = { walk_error_number };
+
+    fn number(self) -> u32 {
+        self as u32
+    }
 }
 
 // Where a cursor is; a length names the front of its key array.
-#[derive(Clone, Copy)]
+#[derive(Clone, Copy, PartialEq, Eq)]
 pub enum Place {
     Start,
     End,
@@ -29,7 +37,7 @@ pub enum Place {
     Seeked(usize),
 }
 
-#[derive(Clone, Copy)]
+#[derive(Clone, Copy, PartialEq, Eq)]
 pub struct Cursor {
     pub place: Place,
     pub key: [u8; 288],
@@ -37,21 +45,12 @@ pub struct Cursor {
 
 // What a step answers: an entry's value, its key being the cursor's; none; or a refusal.
 #[derive(Clone, Copy)]
-pub enum Step {
-    Entry(Value),
-    Nothing,
-    NotStore,
-    LongKey,
-    Bad,
-}
-
-#[derive(Clone, Copy)]
 pub struct Stepped {
-    pub step: Step,
+    pub step: Result<Option<Value>, WalkError>,
     pub cursor: Cursor,
 }
 
-// A cursor sought: whether the key was accepted.
+// A cursor sought: whether the key was accepted. No Result: a refused seek too gives a cursor, at Start, as `sought_of` says.
 #[derive(Clone, Copy)]
 pub struct Sought {
     pub accepted: bool,
@@ -63,17 +62,6 @@ const MOST_DEPTH: u32 = 7;
 const LONGEST_KEY: usize = 288;
 
 // ---- the walk
-
-// Where a walk turns down in each node: before the first separator, at the first whose key is not below the walk's, at the
-// first above it, or behind the last. Nowhere: it reads no node.
-#[derive(Clone, Copy)]
-enum Turn {
-    Nowhere,
-    First,
-    NotBelow,
-    Above,
-    Last,
-}
 
 // Which separator becomes the candidate: the one that has the walk's key, which ends the walk; the one where it turns; or
 // the one just before.
@@ -93,75 +81,36 @@ struct Spot {
     value: Value,
 }
 
-// The last candidate of a walk; or that it met a bad node.
-#[derive(Clone, Copy)]
-enum Candidate {
-    Bad,
-    Nothing,
-    At(Spot),
-}
-
-fn is_nowhere(turn: Turn) -> bool
-    ensures { result ≡ is_nowhere turn }
-{
-    match turn {
-        Turn::Nowhere => true,
-        Turn::First => false,
-        Turn::NotBelow => false,
-        Turn::Above => false,
-        Turn::Last => false,
-    }
-}
-
-// How it turns in each node; one that is nowhere turns in none.
-fn in_node(turn: Turn) -> search::Turn
-    ensures { result ≡ in_node turn }
-{
-    match turn {
-        Turn::Nowhere => search::Turn::First,
-        Turn::First => search::Turn::First,
-        Turn::NotBelow => search::Turn::NotBelow,
-        Turn::Above => search::Turn::Above,
-        Turn::Last => search::Turn::Last,
-    }
-}
-
 // Whether the walk ends where the key was found.
 fn stops(aim: Aim, at: bool) -> bool
     ensures { result ≡ stops_at aim at }
 {
-    match aim {
-        Aim::Same => at,
-        Aim::There => false,
-        Aim::Before => false,
+    matches!(aim, Aim::Same) && at
+}
+
+fn candidate_at(child: Child, spot: search::Spot) -> Spot
+    ensures { result ≡ candidate_at child spot }
+{
+    Spot {
+        child,
+        start: spot.start,
+        len: spot.len,
+        value: spot.value,
     }
 }
 
-fn candidate_at(child: Child, spot: search::Spot) -> Candidate
-    ensures { result ≡ candidate_at child spot }
-{
-    let value = spot.value;
-    Candidate::At(Spot {
-        child: child,
-        start: spot.start,
-        len: spot.len,
-        value: value,
-    })
-}
-
 // The separator where the walk turns as the candidate, or the last one where there is none.
-fn here(sight: Sight, child: Child, last: Candidate) -> Candidate
+fn here(sight: Sight, child: Child, last: Option<Spot>) -> Option<Spot>
     ensures { result ≡ here_of sight child last }
 {
     if !sight.turned {
         return last;
     }
-    let spot = sight.here;
-    candidate_at(child, spot)
+    Some(candidate_at(child, sight.here))
 }
 
 // The candidate behind a node, by what the walk sees in it.
-fn taken(aim: Aim, sight: Sight, child: Child, last: Candidate) -> Candidate
+fn taken(aim: Aim, sight: Sight, child: Child, last: Option<Spot>) -> Option<Spot>
     ensures { result ≡ taken_of aim sight child last }
 {
     match aim {
@@ -171,108 +120,81 @@ fn taken(aim: Aim, sight: Sight, child: Child, last: Candidate) -> Candidate
             if sight.found.index.0 < 1 {
                 return last;
             }
-            let spot = sight.before;
-            candidate_at(child, spot)
+            Some(candidate_at(child, sight.before))
         }
     }
 }
 
 // The walk down: from a child at a depth to depth 0. In each node the candidate is taken, and the walk goes on in the child
-// where it turns.
-fn walk_down(store: &[u8], child: Child, depth: u32, key: &[u8], turn: Turn, aim: Aim) -> Candidate
-    ensures { result ≡ walk_down turn aim key.now (suc depth) store.now child Candidate.Nothing }
+// where it turns. It answers the last candidate, or that a node is bad.
+fn walk_down(
+    store: &[u8],
+    child: Child,
+    depth: u32,
+    key: &[u8],
+    turn: Turn,
+    aim: Aim,
+) -> Result<Option<Spot>, WalkError>
+    ensures { result ≡ walk_down turn aim key.now (suc depth) store.now child None }
 {
-    let way = in_node(turn);
-    let mut last = Candidate::Nothing;
+    let mut last = None;
     let mut at = child;
-    let mut level = depth;
-    loop {
-        let sight = slots::search_at(store, at, level, key, way);
+    for level in (0..=depth).rev() {
+        let sight = slots::search_at(store, at, level, key, turn);
         if !sight.good {
-            return Candidate::Bad;
+            return Err(WalkError::Bad);
         }
         if stops(aim, sight.found.at) {
-            return here(sight, at, last);
+            return Ok(here(sight, at, last));
         }
         last = taken(aim, sight, at, last);
-        if level == 0 {
-            return last;
-        }
         at = sight.child;
-        level -= 1;
     }
+    Ok(last)
 }
 
 // The walk from the root; with no root there is no candidate.
-fn walk(store: &[u8], key: &[u8], turn: Turn, aim: Aim) -> Candidate
+fn walk(store: &[u8], key: &[u8], turn: Option<Turn>, aim: Aim) -> Result<Option<Spot>, WalkError>
     ensures { result ≡ walk_of turn aim key.now store.now }
 {
     let root = slots::root(store);
     if root.0 == 0 {
-        return Candidate::Nothing;
+        return Ok(None);
     }
-    if is_nowhere(turn) {
-        return Candidate::Nothing;
+    match turn {
+        None => Ok(None),
+        Some(turn) => walk_down(store, root, slots::depth(store), key, turn, aim),
     }
-    walk_down(store, root, slots::depth(store), key, turn, aim)
+}
+
+// What a lookup and a step refuse before a walk, in this order; the key's length, or the cursor's.
+fn check(store: &[u8], key_len: usize) -> Result<(), WalkError>
+    ensures { result ≡ check_of store.now key_len }
+{
+    if !slots::is_store(store) {
+        return Err(WalkError::NotStore);
+    }
+    if LONGEST_KEY < key_len {
+        return Err(WalkError::LongKey);
+    }
+    if MOST_DEPTH < slots::depth(store) {
+        return Err(WalkError::Bad);
+    }
+    Ok(())
 }
 
 // ---- lookup
 
-impl LookedUp {
-    // 01's number.
-    pub fn number(self) -> u32
-        ensures { result ≡ lookup_number self }
-    {
-        match self {
-            LookedUp::Found(_) => 0,
-            LookedUp::Absent => 0,
-            LookedUp::NotStore => 1,
-            LookedUp::LongKey => 4,
-            LookedUp::Bad => 8,
-        }
-    }
-}
-
-// "1, 4, 8"; "A depth above 7 is 8, root or not; otherwise no root means absent".
-pub fn lookup(store: &[u8], key: &[u8]) -> LookedUp
+// The value of the key, if the store has it: "1, 4, 8"; "A depth above 7 is 8, root or not; otherwise no root means absent".
+pub fn lookup(store: &[u8], key: &[u8]) -> Result<Option<Value>, WalkError>
     ensures { result ≡ lookup_of store.now key.now }
 {
-    if !slots::is_store(store) {
-        return LookedUp::NotStore;
-    }
-    if LONGEST_KEY < key.len() {
-        return LookedUp::LongKey;
-    }
-    if MOST_DEPTH < slots::depth(store) {
-        return LookedUp::Bad;
-    }
-    match walk(store, key, Turn::NotBelow, Aim::Same) {
-        Candidate::Bad => LookedUp::Bad,
-        Candidate::Nothing => LookedUp::Absent,
-        Candidate::At(spot) => {
-            let value = spot.value;
-            LookedUp::Found(value)
-        }
-    }
+    check(store, key.len())?;
+    let found = walk(store, key, Some(Turn::NotBelow), Aim::Same)?;
+    Ok(found.map(|spot| spot.value))
 }
 
 // ---- the cursor
-
-impl Step {
-    // 01's number.
-    pub fn number(self) -> u32
-        ensures { result ≡ step_number self }
-    {
-        match self {
-            Step::Entry(_) => 0,
-            Step::Nothing => 0,
-            Step::NotStore => 1,
-            Step::LongKey => 4,
-            Step::Bad => 8,
-        }
-    }
-}
 
 impl Sought {
     // 01's number.
@@ -308,96 +230,85 @@ pub fn seek(key: &[u8]) -> Sought
     }
 }
 
-// How long the key of a place is; Start and End have none.
-fn length_of(place: Place) -> usize
-    ensures { result ≡ length_of place }
-{
-    match place {
-        Place::Start => 0,
-        Place::End => 0,
-        Place::At(len) => len,
-        Place::Seeked(len) => len,
+impl Place {
+    // How long the key of a place is; Start and End have none.
+    pub fn length(self) -> usize
+        ensures { result ≡ length_of self }
+    {
+        match self {
+            Place::Start | Place::End => 0,
+            Place::At(len) | Place::Seeked(len) => len,
+        }
     }
 }
 
 // "Forward: Start gives the smallest key, Seeked the first not below, At the first above, End none."
-fn turn_forward(place: Place) -> Turn
+fn turn_forward(place: Place) -> Option<Turn>
     ensures { result ≡ turn_forward place }
 {
     match place {
-        Place::Start => Turn::First,
-        Place::End => Turn::Nowhere,
-        Place::At(_) => Turn::Above,
-        Place::Seeked(_) => Turn::NotBelow,
+        Place::Start => Some(Turn::First),
+        Place::End => None,
+        Place::At(_) => Some(Turn::Above),
+        Place::Seeked(_) => Some(Turn::NotBelow),
     }
 }
 
 // "Backward: End the largest, Seeked the last not above, At the last below, Start none."
-fn turn_backward(place: Place) -> Turn
+fn turn_backward(place: Place) -> Option<Turn>
     ensures { result ≡ turn_backward place }
 {
     match place {
-        Place::Start => Turn::Nowhere,
-        Place::End => Turn::Last,
-        Place::At(_) => Turn::NotBelow,
-        Place::Seeked(_) => Turn::Above,
+        Place::Start => None,
+        Place::End => Some(Turn::Last),
+        Place::At(_) => Some(Turn::NotBelow),
+        Place::Seeked(_) => Some(Turn::Above),
     }
 }
 
-// A refusal leaves the cursor as it was.
-fn refused(step: Step, cursor: Cursor) -> Stepped
-    ensures { result ≡ leaves_it step cursor }
+// The last candidate of the walk from the root for a cursor's key, behind the refusals.
+fn spot_for(
+    store: &[u8],
+    cursor: &Cursor,
+    turn: Option<Turn>,
+    aim: Aim,
+) -> Result<Option<Spot>, WalkError>
+    ensures { result ≡ spot_of store.now cursor.now turn aim }
+{
+    let len = cursor.place.length();
+    check(store, len)?;
+    walk(store, &cursor.key[..len], turn, aim)
+}
+
+fn moved(entry: Option<Value>, place: Place, key: [u8; 288]) -> Stepped
+    ensures { result ≡ moves_it entry place key }
 {
     Stepped {
-        step: step,
-        cursor: cursor,
+        step: Ok(entry),
+        cursor: Cursor { place, key },
     }
 }
 
-fn moved(step: Step, place: Place, key: [u8; 288]) -> Stepped
-    ensures { result ≡ moves_it step place key }
-{
-    Stepped {
-        step: step,
-        cursor: Cursor {
-            place: place,
-            key: key,
-        },
-    }
-}
-
-// A step: the refusals in their order; then the walk, whose candidate moves the cursor. With none it comes to `end`.
-fn take_step(store: &[u8], cursor: Cursor, turn: Turn, aim: Aim, end: Place) -> Stepped
+// A step: its candidate moves the cursor, with none it comes to `end`, and a refusal leaves the cursor as it was.
+fn take_step(store: &[u8], cursor: Cursor, turn: Option<Turn>, aim: Aim, end: Place) -> Stepped
     ensures { result ≡ step_by store.now cursor turn aim end }
 {
-    if !slots::is_store(store) {
-        return refused(Step::NotStore, cursor);
-    }
-    let place = cursor.place;
-    let len = length_of(place);
-    if LONGEST_KEY < len {
-        return refused(Step::LongKey, cursor);
-    }
-    if MOST_DEPTH < slots::depth(store) {
-        return refused(Step::Bad, cursor);
-    }
-    let key = cursor.key;
-    let empty = [0u8; 288];
-    match walk(store, &key[0..len], turn, aim) {
-        Candidate::Bad => refused(Step::Bad, cursor),
-        Candidate::Nothing => moved(Step::Nothing, end, empty),
-        Candidate::At(spot) => {
-            let child = spot.child;
-            let value = spot.value;
-            let mut entry = empty;
+    match spot_for(store, &cursor, turn, aim) {
+        Err(error) => Stepped {
+            step: Err(error),
+            cursor,
+        },
+        Ok(None) => moved(None, end, [0u8; 288]),
+        Ok(Some(spot)) => {
+            let mut entry = [0u8; 288];
             word::copy(
                 &mut entry,
                 0,
-                slots::node_bytes(store, child),
+                slots::node_bytes(store, spot.child),
                 spot.start,
                 spot.len,
             );
-            moved(Step::Entry(value), Place::At(spot.len), entry)
+            moved(Some(spot.value), Place::At(spot.len), entry)
         }
     }
 }
@@ -406,19 +317,23 @@ fn take_step(store: &[u8], cursor: Cursor, turn: Turn, aim: Aim, end: Place) -> 
 pub fn forward(store: &[u8], cursor: Cursor) -> Stepped
     ensures { result ≡ forward_of store.now cursor }
 {
-    let place = cursor.place;
-    take_step(store, cursor, turn_forward(place), Aim::There, Place::End)
+    take_step(
+        store,
+        cursor,
+        turn_forward(cursor.place),
+        Aim::There,
+        Place::End,
+    )
 }
 
 // "none moves it to .. Start".
 pub fn backward(store: &[u8], cursor: Cursor) -> Stepped
     ensures { result ≡ backward_of store.now cursor }
 {
-    let place = cursor.place;
     take_step(
         store,
         cursor,
-        turn_backward(place),
+        turn_backward(cursor.place),
         Aim::Before,
         Place::Start,
     )

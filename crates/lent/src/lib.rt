@@ -4,40 +4,36 @@
 
 ghost use Rattle.std.specs.Prelude.{◌≡◌, map};
 ghost use Rattle.node.specs.Chain.{value_of, child_of};
-ghost use Rattle.lent.specs.Lent.{present_of, found_value, kind_of, length_of, place_of, Holds, entry_of, entry_value, Steps, within};
+ghost use Rattle.lent.specs.Lent.{present_of, found_value, kind_of, place_of, Holds, Steps, within};
 
 use codec::Places;
-use iter::{Cursor, LookedUp, Place, Step, Stepped};
+use iter::{Cursor, Place, Stepped, WalkError};
 use node::{Child, Value};
+use std::array;
 
-// ---- lookup
+// ---- what a lookup or a step answers: 1 and the value, or 0 and 0 where there is none
 
-pub fn is_found(looked: LookedUp) -> u32
-    ensures { result ≡ present_of looked }
+pub fn is_found(answer: Result<Option<Value>, WalkError>) -> u32
+    ensures { result ≡ present_of answer }
 {
-    match looked {
-        LookedUp::Found(_) => 1,
-        LookedUp::Absent => 0,
-        LookedUp::NotStore => 0,
-        LookedUp::LongKey => 0,
-        LookedUp::Bad => 0,
+    match answer {
+        Ok(Some(_)) => 1,
+        _ => 0,
     }
 }
 
-pub fn found_value(looked: LookedUp) -> u64
-    ensures { result ≡ found_value looked }
+pub fn found_value(answer: Result<Option<Value>, WalkError>) -> u64
+    ensures { result ≡ found_value answer }
 {
-    match looked {
-        LookedUp::Found(value) => value.0,
-        LookedUp::Absent => 0,
-        LookedUp::NotStore => 0,
-        LookedUp::LongKey => 0,
-        LookedUp::Bad => 0,
+    match answer {
+        Ok(Some(value)) => value.0,
+        _ => 0,
     }
 }
 
 // ---- the cursor
 
+// Kinds of places are numbers here, and not an enum, since so they lie in a C program's memory: `kind_of`, `place_of`.
 const START: u32 = 0;
 
 const END: u32 = 1;
@@ -60,34 +56,17 @@ pub fn kind_of(place: Place) -> u32
     }
 }
 
-pub fn length_of(place: Place) -> usize
-    ensures { result ≡ length_of place }
-{
-    match place {
-        Place::Start => 0,
-        Place::End => 0,
-        Place::At(len) => len,
-        Place::Seeked(len) => len,
-    }
-}
-
 // The place that a kind and a length name. A kind above 3 names none: it becomes a place that every step refuses.
 pub fn place_of(kind: u32, len: usize) -> Place
     ensures { result ≡ place_of kind len }
 {
-    if kind == START {
-        return Place::Start;
+    match kind {
+        START => Place::Start,
+        END => Place::End,
+        AT => Place::At(len),
+        SEEKED => Place::Seeked(len),
+        _ => Place::At(TOO_LONG),
     }
-    if kind == END {
-        return Place::End;
-    }
-    if kind == AT {
-        return Place::At(len);
-    }
-    if kind == SEEKED {
-        return Place::Seeked(len);
-    }
-    Place::At(TOO_LONG)
 }
 
 // Leaves the cursor in the lent numbers and bytes where the answer's number is 0; else they stay.
@@ -95,35 +74,11 @@ pub fn leave(number: u32, cursor: Cursor, kind: &mut u32, len: &mut usize, held:
     ensures { Holds number cursor kind.old len.old held.old kind.new len.new held.new }
 {
     if number == 0 {
-        let place = cursor.place;
-        *kind = kind_of(place);
-        *len = length_of(place);
+        *kind = kind_of(cursor.place);
+        *len = cursor.place.length();
+        // by a local: `*held = cursor.key` was tried, and gets no generated proof
         let key = cursor.key;
         *held = key;
-    }
-}
-
-pub fn is_entry(step: Step) -> u32
-    ensures { result ≡ entry_of step }
-{
-    match step {
-        Step::Entry(_) => 1,
-        Step::Nothing => 0,
-        Step::NotStore => 0,
-        Step::LongKey => 0,
-        Step::Bad => 0,
-    }
-}
-
-pub fn entry_value(step: Step) -> u64
-    ensures { result ≡ entry_value step }
-{
-    match step {
-        Step::Entry(value) => value.0,
-        Step::Nothing => 0,
-        Step::NotStore => 0,
-        Step::LongKey => 0,
-        Step::Bad => 0,
     }
 }
 
@@ -139,55 +94,37 @@ pub fn answer_step(
     ensures { Steps stepped kind.old len.old held.old result kind.new len.new held.new present.new value.new }
 {
     let step = stepped.step;
-    let number = step.number();
-    *present = is_entry(step);
-    *value = entry_value(step);
+    let number = refusal::number(step);
+    *present = is_found(step);
+    *value = found_value(step);
     leave(number, stepped.cursor, kind, len, held);
     number
 }
 
 // ---- node bytes, read where they stand: keys are named as parts of them
 
-const LAST_SEPARATOR: usize = 7;
-
-const LAST_CHILD: usize = 8;
-
 pub fn start_at(places: Places, i: usize) -> usize
     ensures { result ≡ within 7 places.starts i 0 }
 {
-    if LAST_SEPARATOR < i {
-        return 0;
-    }
-    places.starts[i]
+    places.starts.get(i).copied().unwrap_or(0)
 }
 
 pub fn length_at(places: Places, i: usize) -> usize
     ensures { result ≡ within 7 places.lens i 0 }
 {
-    if LAST_SEPARATOR < i {
-        return 0;
-    }
-    places.lens[i]
+    places.lens.get(i).copied().unwrap_or(0)
 }
 
 pub fn value_at(places: Places, i: usize) -> u64
     ensures { result ≡ (within 7 places.values i (value_of 0)).0 }
 {
-    if LAST_SEPARATOR < i {
-        return 0;
-    }
-    let value = places.values[i];
-    value.0
+    places.values.get(i).copied().unwrap_or(Value(0)).0
 }
 
 pub fn child_at(places: Places, i: usize) -> u64
     ensures { result ≡ (within 8 places.children i (child_of 0)).0 }
 {
-    if LAST_CHILD < i {
-        return 0;
-    }
-    let child = places.children[i];
-    child.0
+    places.children.get(i).copied().unwrap_or(Child(0)).0
 }
 
 // ---- a node to be written
@@ -195,30 +132,11 @@ pub fn child_at(places: Places, i: usize) -> u64
 pub fn children_of(addresses: [u64; 9]) -> [Child; 9]
     ensures { result ≡ map child_of addresses }
 {
-    [
-        Child(addresses[0]),
-        Child(addresses[1]),
-        Child(addresses[2]),
-        Child(addresses[3]),
-        Child(addresses[4]),
-        Child(addresses[5]),
-        Child(addresses[6]),
-        Child(addresses[7]),
-        Child(addresses[8]),
-    ]
+    array::from_fn(|i| Child(addresses[i]))
 }
 
 pub fn values_of(addresses: [u64; 8]) -> [Value; 8]
     ensures { result ≡ map value_of addresses }
 {
-    [
-        Value(addresses[0]),
-        Value(addresses[1]),
-        Value(addresses[2]),
-        Value(addresses[3]),
-        Value(addresses[4]),
-        Value(addresses[5]),
-        Value(addresses[6]),
-        Value(addresses[7]),
-    ]
+    array::from_fn(|i| Value(addresses[i]))
 }

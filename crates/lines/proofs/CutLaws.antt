@@ -3,15 +3,16 @@
 -- (what the definitions say: `sets_back`, `key_fits`, `records_fit`, `same_parse`, `read_lem`). Assumes nothing.
 use mathlib.Core.Path.{◌≡◌, refl, sym, ap, ◌∙◌}
 use mathlib.Core.List.{List, [], ◌∷◌}
-use mathlib.Core.Bool.{true, false}
+use mathlib.Core.Bool.{Bool, true, false, not}
 use Prim.Native.Nat.{ℕ, suc, ◌+◌, ◌-◌, ◌≤◌, ◌<◌}
-use lib.ListN.{length, get_or, take, drop, drop_of_length-le, length-drop}
-use lib.Seq.{drop-cons, take-length, length-take-le}
+use lib.ListN.{length, take, drop, length-drop}
+use lib.Seq.{take-length}
 use lib.Dec.{eqb, ltb}
-use native.Mathlib.Numerals.{add-one}
 use native.Mathlib.Omega.{arith}
-use borrow.Author.Tests.{eq-eqb, ne_eqb, lt-ltb, le-ltb, ltb-true, ltb-false}
-use Rattle.word.specs.Pick.{pick_t, pick_f, by_test}
+use borrow.Author.Tests.{eq-eqb, lt-ltb, le-ltb, ltb-true, ltb-false}
+use Rattle.std.specs.Prelude.{Option, Some, None, cond, ◌==◌, position}
+use Rattle.std.specs.List.{position_or_len}
+use Rattle.word.specs.Pick.{pick, pick_t, pick_f, by_test}
 use Rattle.tree.proofs.Cases.{by_bool}
 use Rattle.lines.specs.Lines.{up_to, has, behind}
 
@@ -27,6 +28,14 @@ ltb_suc m n =
     by_bool (ltb m n)
     (λ t. let h = ltb-true m n t in lt-ltb (suc m) (suc n) (omega arith) ∙ sym t)
     (λ t. let h = ltb-false m n t in le-ltb (suc m) (suc n) (omega arith) ∙ sym t)
+
+some_of : (c : Bool) (n t : ℕ) → cond c (Some n) None ≡ Some t → (c ≡ true) × (n ≡ t)
+some_of true n t e = (refl, cc)
+some_of false n t e = cc
+
+none_of : (c : Bool) (n : ℕ) → cond c (Some n) None ≡ None → c ≡ false
+none_of true n e = cc
+none_of false n e = refl
 
 module _ (b : ℕ) where
   pub up_to_short : (s : List ℕ) → length (up_to b s) ≤ length s
@@ -65,54 +74,40 @@ module _ (b : ℕ) where
       unfolding behind
       behind_there = let e : suc (length (up_to b s)) + 1 ≡ suc (length (up_to b s) + 1) = omega arith in rw (up_to_there, e)
 
-  -- ---- the ways through `find`
+  -- ---- the first b, as the code looks for it
 
-  module _ (s : List ℕ) where
-    -- no b stands before i
-    pub record Sought (i : ℕ) : Type 0 where
-      pub rest : length (up_to b s) ≡ i + length (up_to b (drop i s))
+  place_next : (t : Bool) (m x : ℕ) (u : List ℕ) → m ≡ length u → cond (not t) (1 + m) 0 ≡ length (pick t [] (x ∷ u))
+  unfolding pick
+  place_next true m x u e = refl
+  place_next false m x u e = omega arith
 
-    pub find_start : Sought 0
-    find_start = record { rest = omega arith }
+  pub place_is : (s : List ℕ) → position_or_len (λ x. x == b) s ≡ length (up_to b s)
+  unfolding up_to
+  place_is [] = refl
+  place_is (x ∷ s) = place_next (eqb x b) (position_or_len (λ y. y == b) s) x (up_to b s) (place_is s)
 
-    module _ (i : ℕ) (h : Sought i) where
-      pub find_end : length s ≤ i → i ≡ length (up_to b s)
-      unfolding up_to
-      find_end g = sym (h.rest ∙ rw (drop_of_length-le s g) (omega arith))
-
-      module _ (g : i < length s) where
-        pub find_here : get_or s i 0 ≡ b → i ≡ length (up_to b s)
-        unfolding up_to
-        find_here e = sym (h.rest ∙ rw (drop-cons s i 0 g) (rw (pick_t [] (get_or s i 0 ∷ up_to b (drop (suc i) s)) (eq-eqb (get_or s i 0) b e)) (omega arith)))
-
-        pub find_turn : (get_or s i 0 ≡ b → ⊥) → Sought (i + 1)
-        unfolding up_to
-        find_turn e = record { rest = h.rest ∙ rw (drop-cons s i 0 g, add-one) (rw (pick_f [] (get_or s i 0 ∷ up_to b (drop (suc i) s)) (ne_eqb (get_or s i 0) b e)) (omega arith)) }
-
-  -- ---- what its answer says
-
-  module _ (s : List ℕ) {t : ℕ} (found : t ≡ length (up_to b s)) where
-    pub found_within : t ≤ length s
-    found_within = rw found (up_to_short s)
-
-    pub not_found : t ≡ length s → has b s ≡ false
+  module _ (s : List ℕ) {r : Option ℕ} (sought : r ≡ position (λ x. x == b) s) where
+    pub not_found : r ≡ None → has b s ≡ false
     unfolding has
-    not_found e = le-ltb (length (up_to b s)) (length s) (omega arith)
+    not_found e = rw (← place_is s) (none_of (ltb (position_or_len (λ x. x == b) s) (length s)) _ (sym sought ∙ e))
 
-    module _ (inside : t ≡ length s → ⊥) where
+    module _ {t : ℕ} (found : r ≡ Some t) where
+      is_there : (ltb (position_or_len (λ x. x == b) s) (length s) ≡ true) × (position_or_len (λ x. x == b) s ≡ t)
+      is_there = some_of (ltb (position_or_len (λ x. x == b) s) (length s)) _ t (sym sought ∙ found)
+
+      pub found_at : t ≡ length (up_to b s)
+      found_at = sym is_there.1 ∙ place_is s
+
       pub found_inside : t < length s
-      found_inside = let h = found_within in omega (arith, inside)
+      found_inside = let h = ltb-true _ (length s) is_there.0 in let e = is_there.1 in omega arith
 
       pub is_found : has b s ≡ true
       unfolding has
-      is_found = lt-ltb (length (up_to b s)) (length s) (let h = found_inside in omega arith)
+      is_found = rw (← place_is s) is_there.0
 
-    pub found_length : t ≡ length (take t s)
-    found_length = sym (length-take-le t s found_within)
+      pub found_front : take t s ≡ up_to b s
+      found_front = rw found_at (up_to_take s)
 
-    pub found_front : take t s ≡ up_to b s
-    found_front = rw found (up_to_take s)
-
-    pub found_behind : tail s (t + 1) ≡ behind b s
-    unfolding behind
-    found_behind = tail_is s (t + 1) ∙ rw found
+      pub found_behind : tail s (t + 1) ≡ behind b s
+      unfolding behind
+      found_behind = tail_is s (t + 1) ∙ rw found_at

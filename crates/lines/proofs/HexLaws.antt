@@ -19,6 +19,10 @@ use Rattle.lines.specs.Digits.{digit_of, is_hex, hex_key}
 use Rattle.lines.specs.Mirror.{is_key}
 use Rattle.lines.proofs.DigitLaws.{and_false}
 
+and_false_2 : (a b : Bool) → b ≡ false → (a && b) ≡ false
+and_false_2 true b e = e
+and_false_2 false b e = refl
+
 pub length_hex_key : (s : List ℕ) → length (hex_key s) ≡ length s / 2
 unfolding hex_key
 length_hex_key [] = omega arith
@@ -78,8 +82,8 @@ module _ (s d : List ℕ) (at : ℕ) where
       pub unhex_3 : 16 ≤ high → false ≡ is_key s (length d) at
       unhex_3 l = not_key s (length d) at (step ∙ and_false _ _ (and_false _ _ (le-ltb high 16 l)))
 
-      pub unhex_4 : high < 16 → 16 ≤ low → false ≡ is_key s (length d) at
-      unhex_4 k l = not_key s (length d) at (step ∙ rw (lt-ltb high 16 k, le-ltb low 16 l))
+      pub unhex_4 : 16 ≤ low → false ≡ is_key s (length d) at
+      unhex_4 l = not_key s (length d) at (step ∙ and_false _ _ (and_false_2 _ _ (le-ltb low 16 l)))
 
       pub unhex_turn : high < 16 → low < 16 → at + length s / 2 ≤ length d → Unhexed (i + 1) (set e (at + i) (high * 16 + low))
       unhex_turn k l fits =

@@ -4,8 +4,7 @@ use mathlib.Core.List.{List, [], ◌∷◌, ◌++◌, append_assoc, append-nil}
 use mathlib.Core.Bool.{true, false}
 use mathlib.Core.Option.{Option, none, some}
 use Prim.Native.Nat.{ℕ, ◌+◌, ◌-◌, ◌≤◌, ◌<◌}
-use lib.ListN.{length, take, drop, length-append, drop_of_length-le, length-drop}
-use lib.Seq.{drop-drop}
+use lib.ListN.{length, take, length-append, drop_of_length-le, length-drop}
 use lib.Dec.{eqb, ltb}
 use native.Mathlib.Omega.{arith}
 use borrow.Author.Tests.{ne_eqb, eqb-true, lt-ltb, le-ltb, ltb-false}
@@ -20,10 +19,10 @@ use Rattle.tree.specs.Batch.{Rec}
 use Rattle.tree.proofs.Cases.{by_bool}
 use Rattle.changes.specs.Records.{encode_record, encode_records}
 use Rattle.changes.proofs.RecordLaws.{impossible}
-use Rattle.lines.specs.declared.Parsed.{Parsed}
-use Rattle.lines.specs.declared.Parsed.TheVariants.{Done, Refused}
+use Rattle.std.specs.Prelude.{Option as Maybe, Some, None, Ok, Err, ◌==◌, position}
+use Rattle.lines.specs.declared.ParseError.TheVariants.{BadText}
 use Rattle.lines.specs.Lines.{lf, up_to, has, behind, line_of, with_line, lines_from, lines_of}
-use Rattle.lines.specs.Parses.{longest_text, parsed_length, fitting, taken, Leaves, Parses}
+use Rattle.lines.specs.Parses.{longest_text, fitting, taken, Leaves, Parses}
 use Rattle.lines.specs.Mirror.{encoded, Put, PlacedAll, Placed}
 use Rattle.lines.proofs.PutLaws.{put_zero, put_none, put_some}
 use Rattle.lines.proofs.CutLaws.{has_here, has_there, up_to_here, up_to_there, behind_here, behind_there, not_found, is_found, found_inside, found_front, found_behind, tail, tail_is}
@@ -91,17 +90,21 @@ unfolding fitting
 too_long room done none h = refl
 too_long room done (some rs) h = pick_t _ _ (lt-ltb room (length (encode_records (done ++ rs))) (rw (encode_append done rs) (simp length-append (omega arith))))
 
-encode_long : (r : Rec ℕ) → 0 < length (encode_record r)
-unfolding encode_record
-encode_long r = omega arith
-
 -- ---- the ways through `put_lines`
 
+pub some_left : (s : List ℕ) → eqb (length s) 0 ≡ false → 0 < length s
+some_left [] e = absurd (impossible (sym e))
+some_left (x ∷ s) e = omega arith
+
+none_left : (s : List ℕ) → length s ≡ 0 → s ≡ []
+none_left [] h = refl
+none_left (x ∷ s) h = absurd (omega arith)
+
 module _ (text d : List ℕ) where
-  -- the text up to `from` says records that stand in e up to `at`
-  pub record Read (from at : ℕ) (e : List ℕ) : Type 0 where
+  -- the text before `rest` says records that stand in e up to `at`
+  pub record Read (rest : List ℕ) (at : ℕ) (e : List ℕ) : Type 0 where
     pub done : List (Rec ℕ)
-    pub says : lines_of text ≡ after done (lines_of (drop from text))
+    pub says : lines_of text ≡ after done (lines_of rest)
     pub place : at ≡ length (encode_records done)
     pub fits : at ≤ length d
     pub bytes : e ≡ over d 0 (encode_records done)
@@ -110,86 +113,74 @@ module _ (text d : List ℕ) where
   after_none none = refl
   after_none (some rs) = refl
 
-  pub lines_start : Read 0 0 d
+  pub lines_start : Read text 0 d
   unfolding encode_records
   lines_start = record { done = []; says = after_none (lines_of text); place = refl; fits = omega arith; bytes = sym (over_none d 0) }
 
-  pub placed_none : (e : List ℕ) → fitting (length d) (lines_of text) ≡ none → Placed text d Refused e
+  placed_none : (e : List ℕ) → fitting (length d) (lines_of text) ≡ none → Placed text d None e
   unfolding PlacedAll
   placed_none e p = rw p refl
 
-  placed_some : (r : Parsed) (e : List ℕ) (rs : List (Rec ℕ)) → fitting (length d) (lines_of text) ≡ some rs → r ≡ Done (length (encode_records rs)) → e ≡ over d 0 (encode_records rs) → Placed text d r e
+  placed_some : (r : ℕ) (e : List ℕ) (rs : List (Rec ℕ)) → fitting (length d) (lines_of text) ≡ some rs → r ≡ length (encode_records rs) → e ≡ over d 0 (encode_records rs) → Placed text d (Some r) e
   unfolding PlacedAll
-  placed_some r e rs p q w = rw p (q, w)
+  placed_some r e rs p q w = rw p (ap Some q, w)
 
-  module _ {from at : ℕ} {e : List ℕ} (read : Read from at e) where
-    pub lines_end : length text ≤ from → Placed text d (Done at) e
+  module _ {rest : List ℕ} {at : ℕ} {e : List ℕ} (read : Read rest at e) where
+    pub lines_end : length rest ≡ 0 → Placed text d (Some at) e
     unfolding fitting
     lines_end h =
         let rs = read.done in
-        let all : lines_of text ≡ some rs = read.says ∙ rw (drop_of_length-le text h, lines_none, append-nil rs) in
+        let all : lines_of text ≡ some rs = read.says ∙ rw (none_left rest h, lines_none, append-nil rs) in
         let f = read.fits in
         let p = read.place in
-        placed_some (Done at) e rs (ap (fitting (length d)) all ∙ pick_f _ _ (le-ltb (length d) (length (encode_records rs)) (omega arith))) (ap Done p) read.bytes
+        placed_some at e rs (ap (fitting (length d)) all ∙ pick_f _ _ (le-ltb (length d) (length (encode_records rs)) (omega arith))) p read.bytes
 
-    module _ (more : from < length text) {n : ℕ} (found : n ≡ length (up_to lf (tail text from))) where
-      in_rest : n ≡ length (up_to lf (drop from text))
-      in_rest = found ∙ rw (tail_is text from)
-
-      rest_long : length (drop from text) ≡ length text - from
-      rest_long = length-drop from text
-
-      pub lines_1 : n ≡ length text - from → Placed text d Refused e
+    module _ {f : Maybe ℕ} (sought : f ≡ position (λ x. x == lf) rest) where
+      pub lines_1 : f ≡ None → 0 < length rest → Placed text d None e
       unfolding fitting
-      lines_1 q =
-          let l = rest_long in
-          placed_none e
-          (ap (fitting (length d)) (read.says ∙ ap (after read.done) (lines_open (drop from text) (not_found lf (drop from text) in_rest (q ∙ sym rest_long)) (omega arith))))
+      lines_1 q h = placed_none e (ap (fitting (length d)) (read.says ∙ ap (after read.done) (lines_open rest (not_found lf rest sought q) h)))
 
-      module _ (inside : n ≡ length text - from → ⊥) where
-        pub line_within : from + n < length text
-        line_within = let w = found_inside lf (drop from text) in_rest (λ q. inside (q ∙ rest_long)) in let l = rest_long in omega arith
+      module _ {n : ℕ} (found : f ≡ Some n) where
+        pub line_within : n < length rest
+        line_within = found_inside lf rest sought found
 
-        says_line : lines_of (drop from text) ≡ with_line (line_of (take (from + n - from) (drop from text))) (lines_of (drop (from + n + 1) text))
-        says_line =
-            let x : n ≡ from + n - from = omega arith in
-            let y : from + (n + 1) ≡ from + n + 1 = omega arith in
-            let s : List ℕ = drop from text in
-            let front : up_to lf s ≡ take (from + n - from) s = sym (found_front lf s in_rest) ∙ ap (λ (k : ℕ). take k s) x in
-            let back : behind lf s ≡ drop (from + n + 1) text = sym (found_behind lf s in_rest) ∙ tail_is s (n + 1) ∙ drop-drop (n + 1) from text ∙ ap (λ (k : ℕ). drop k text) y in
-            lines_cut s (is_found lf s in_rest (λ q. inside (q ∙ rest_long))) ∙ rw (front, back)
+        pub rest_shorter : length (tail rest (n + 1)) < length rest
+        rest_shorter = let w = line_within in rw (tail_is rest (n + 1), length-drop (n + 1) rest) (omega arith)
+
+        says_line : lines_of rest ≡ with_line (line_of (take n rest)) (lines_of (tail rest (n + 1)))
+        says_line = lines_cut rest (is_found lf rest sought found) ∙ rw (found_front lf rest sought found, found_behind lf rest sought found)
 
         -- the line's record, or none
-        module _ (r : ℕ) (e2 : List ℕ) (put : Put (encoded (line_of (take (from + n - from) (drop from text)))) e at r e2) where
+        module _ (r : Maybe ℕ) (e2 : List ℕ) (put : Put (encoded (line_of (take n rest))) e at r e2) where
           abbrev this : Option (Rec ℕ)
-          this = line_of (take (from + n - from) (drop from text))
+          this = line_of (take n rest)
 
           abbrev later : Option (List (Rec ℕ))
-          later = lines_of (drop (from + n + 1) text)
+          later = lines_of (tail rest (n + 1))
 
           size_same : length e ≡ length d
           size_same = let f = read.fits in let p = read.place in rw read.bytes (length_over d 0 (encode_records read.done) (omega arith))
 
-          pub lines_2 : r ≡ 0 → Placed text d Refused e2
+          pub lines_2 : r ≡ None → Placed text d None e2
           unfolding fitting
           lines_2 z = placed_none e2 (ap (fitting (length d)) (read.says ∙ ap (after read.done) says_line) ∙ refuse this put)
             where
               refuse : (o : Option (Rec ℕ)) → Put (encoded o) e at r e2 → fitting (length d) (after read.done (with_line o later)) ≡ none
               refuse none p = refl
               refuse (some x) p =
-                  let l = put_zero (encode_record x) e at r e2 (encode_long x) p z in
+                  let l = put_zero (encode_record x) e at r e2 p z in
                   let s = size_same in
                   let k = read.place in
                   ap (fitting (length d)) (after_line read.done x later)
                   ∙ too_long (length d) (read.done ++ (x ∷ [])) later (rw (encode_more read.done x) (simp length-append (omega arith)))
 
-          pub lines_turn : (r ≡ 0 → ⊥) → Read (from + n + 1) (at + r) e2
-          lines_turn z = take_line this put says_line
+          pub lines_turn : (k : ℕ) → r ≡ Some k → Read (tail rest (n + 1)) (at + k) e2
+          lines_turn len z = take_line this put says_line
             where
-              take_line : (o : Option (Rec ℕ)) → Put (encoded o) e at r e2 → lines_of (drop from text) ≡ with_line o later → Read (from + n + 1) (at + r) e2
-              take_line none p s = absurd (z (put_none e at r e2 p))
+              take_line : (o : Option (Rec ℕ)) → Put (encoded o) e at r e2 → lines_of rest ≡ with_line o later → Read (tail rest (n + 1)) (at + len) e2
+              take_line none p s = let q = put_none e at r e2 p in cc
               take_line (some x) p s =
-                  let w = put_some (encode_record x) e at r e2 p z in
+                  let w = put_some (encode_record x) e at r e2 p len z in
                   let k = read.place in
                   let l = size_same in
                   let m = w.1 in
@@ -224,10 +215,6 @@ size : Option (List (Rec ℕ)) → ℕ
 size none = 0
 size (some rs) = length (encode_records rs)
 
-kind : Parsed → ℕ
-kind (Done n) = 0
-kind Refused = 1
-
 fitting_fits : (room : ℕ) (o : Option (List (Rec ℕ))) (rs : List (Rec ℕ)) → fitting room o ≡ some rs → length (encode_records rs) ≤ room
 unfolding fitting said_lem size
 fitting_fits room none rs = λ e. absurd (let z : ◌≡◌ {A = ℕ} 0 1 = ap said_lem e in omega arith)
@@ -237,25 +224,25 @@ fitting_fits room (some qs) rs =
     (λ t e. let q : length (encode_records qs) ≡ length (encode_records rs) = ap size e in omega (arith, ltb-false room (length (encode_records qs)) t))
 
 module _ (text d : List ℕ) where
-  leaves_none : (m e : List ℕ) → taken text (length d) ≡ none → length m ≡ length d → e ≡ clear_at m 0 (length d) → Parses text d Refused e
+  leaves_none : (m e : List ℕ) → taken text (length d) ≡ none → length m ≡ length d → e ≡ clear_at m 0 (length d) → Parses text d (Err BadText) e
   unfolding Leaves
   leaves_none m e t l q = rw t (refl, refl, q ∙ clear_at_in m 0 (length d) (omega arith) ∙ over_all m (zeros (length d)) (length_zeros (length d) ∙ sym l))
 
-  pub parse_1 : (e : List ℕ) → longest_text < length text → e ≡ clear_at d 0 (length d) → Parses text d Refused e
+  pub parse_1 : (e : List ℕ) → longest_text < length text → e ≡ clear_at d 0 (length d) → Parses text d (Err BadText) e
   unfolding taken
   parse_1 e h q = leaves_none d e (pick_t _ _ (lt-ltb longest_text (length text) h)) refl q
 
-  module _ (short : length text ≤ longest_text) (r : Parsed) (m : List ℕ) (placed : Placed text d r m) where
+  module _ (short : length text ≤ longest_text) (r : Maybe ℕ) (m : List ℕ) (placed : Placed text d r m) where
     taken_is : taken text (length d) ≡ fitting (length d) (lines_of text)
     unfolding taken
     taken_is = pick_f _ _ (le-ltb longest_text (length text) short)
 
-    refused : (o : Option (List (Rec ℕ))) → PlacedAll o d r m → r ≡ Refused → o ≡ none
-    unfolding PlacedAll kind
+    refused : (o : Option (List (Rec ℕ))) → PlacedAll o d r m → r ≡ None → o ≡ none
+    unfolding PlacedAll
     refused none p w = refl
-    refused (some rs) p w = absurd (let z : ◌≡◌ {A = ℕ} 0 1 = ap kind (sym p.0 ∙ w) in omega arith)
+    refused (some rs) p w = let z = p.0 in cc
 
-    pub parse_3 : (e : List ℕ) → r ≡ Refused → length m ≡ length d → e ≡ clear_at m 0 (length d) → Parses text d Refused e
+    pub parse_3 : (e : List ℕ) → r ≡ None → length m ≡ length d → e ≡ clear_at m 0 (length d) → Parses text d (Err BadText) e
     parse_3 e w l q = leaves_none m e (taken_is ∙ refused (fitting (length d) (lines_of text)) placed w) l q
 
     -- where records are taken, they stand at the front
@@ -265,19 +252,19 @@ module _ (text d : List ℕ) where
       size_is : n ≡ length (encode_records records)
       stand : m ≡ over d 0 (encode_records records)
 
-    accepted : (n : ℕ) (o : Option (List (Rec ℕ))) → fitting (length d) (lines_of text) ≡ o → PlacedAll o d r m → r ≡ Done n → Taken n
-    unfolding PlacedAll kind
-    accepted n none q p w = absurd (let z : ◌≡◌ {A = ℕ} 1 0 = ap kind (sym p ∙ w) in omega arith)
-    accepted n (some rs) q p w = record { records = rs; are = q; size_is = ap parsed_length (sym w ∙ p.0); stand = p.1 }
+    accepted : (n : ℕ) (o : Option (List (Rec ℕ))) → fitting (length d) (lines_of text) ≡ o → PlacedAll o d r m → r ≡ Some n → Taken n
+    unfolding PlacedAll
+    accepted n none q p w = cc
+    accepted n (some rs) q p w = record { records = rs; are = q; size_is = (let z = p.0 in cc); stand = p.1 }
 
-    module _ (n : ℕ) (w : r ≡ Done n) where
+    module _ (n : ℕ) (w : r ≡ Some n) where
       abbrev found : Taken n
       found = accepted n (fitting (length d) (lines_of text)) refl placed w
 
       pub parse_within : n ≤ length d
       parse_within = let s = found.size_is in let f = fitting_fits (length d) (lines_of text) found.records found.are in omega arith
 
-      pub parse_2 : (e : List ℕ) → e ≡ clear_at m n (length d - n) → Parses text d (Done n) e
+      pub parse_2 : (e : List ℕ) → e ≡ clear_at m n (length d - n) → Parses text d (Ok n) e
       unfolding Leaves
       parse_2 e q =
           let rs = found.records in

@@ -9,7 +9,8 @@ use lib.Dec.{ltb}
 use native.Mathlib.Nat.{pow-suc}
 use native.Mathlib.Numerals.{add-one}
 use native.Mathlib.Omega.{arith}
-use borrow.Author.Tests.{lt-ltb, le-ltb, le-leb, lt-leb, not-true, not-false}
+use borrow.Author.Tests.{lt-ltb, le-ltb, le-leb, lt-leb, ltb-true, ltb-false, not-true, not-false}
+use Rattle.std.specs.Prelude.{Some, None}
 use Rattle.word.specs.Pick.{pick_t, pick_f, by_test}
 use Rattle.word.specs.Key.{Key}
 use Rattle.word.specs.Part.{over, part}
@@ -48,17 +49,6 @@ decimal_many v h small = go
     go : decimal_up_to 19 v ≡ decimal_up_to 19 (v / 10) ++ ((48 + v % 10) ∷ [])
     go = unfold decimal_up_to in (pick_f _ _ (le-ltb v 10 h)) ∙ ap (λ (s : List ℕ). s ++ ((48 + v % 10) ∷ [])) (enough 18 (v / 10) (omega arith))
 
-up_to_few : (k v : ℕ) → length (decimal_up_to k v) ≤ suc k
-unfolding decimal_up_to
-up_to_few zero v = omega arith
-up_to_few (suc k) v =
-    by_test (λ (s : List ℕ). length s ≤ suc (suc k)) (ltb v 10) (λ t. omega arith)
-    (λ t. let h = up_to_few k (v / 10) in simp length-append (omega arith))
-
-pub at_most_20 : (v : ℕ) → length (decimal_of v) ≤ 20
-unfolding decimal_of
-at_most_20 v = up_to_few 19 v
-
 some_digit : (k v : ℕ) → 1 ≤ length (decimal_up_to k v)
 unfolding decimal_up_to
 some_digit zero v = omega arith
@@ -68,32 +58,18 @@ pub at_least_1 : (v : ℕ) → 1 ≤ length (decimal_of v)
 unfolding decimal_of
 at_least_1 v = some_digit 19 v
 
--- ---- the ways through `digits`
+-- ---- how many digits, by the power of ten that a number reaches
 
-module _ (value : ℕ) where
-  -- n - 1 digits are counted, and those of v are not
-  pub record Counting (v n : ℕ) : Type 0 where
-    pub rest : n + length (decimal_of v) ≡ length (decimal_of value) + 1
+pub digits_few : (v : ℕ) → v < 10 → 1 ≡ length (decimal_of v)
+digits_few v h = sym (ap length (decimal_few v h))
 
-  pub digits_start : Counting value 1
-  digits_start = record { rest = omega arith }
-
-  module _ (v n : ℕ) (c : Counting v n) where
-    pub digits_small : n ≤ 21
-    digits_small = let r = c.rest in let h = at_most_20 value in omega arith
-
-    pub digits_turn : 10 ≤ v → v < 256 ^ 8 → Counting (v / 10) (n + 1)
-    digits_turn h s =
-        let e : length (decimal_of v) ≡ length (decimal_of (v / 10)) + 1 = ap length (decimal_many v h s) ∙ simp length-append in
-        let r = c.rest in
-        record { rest = omega arith }
-
-    pub digits_end : v < 10 → (n ≡ length (decimal_of value)) × (n ≤ 20)
-    digits_end h =
-        let e : length (decimal_of v) ≡ 1 = ap length (decimal_few v h) in
-        let r = c.rest in
-        let m = at_most_20 value in
-        (omega arith, omega arith)
+pub digits_many : (k v : ℕ) → 10 ^ k ≤ v → v < 10 * 10 ^ k → v < 256 ^ 8 → k + 1 ≡ length (decimal_of v)
+digits_many zero v h g small = digits_few v (omega arith)
+digits_many (suc k) v h g small =
+    let p = pow-suc 10 k in
+    let one_less = digits_many k (v / 10) (omega arith) (omega arith) (omega arith) in
+    let e : length (decimal_of v) ≡ length (decimal_of (v / 10)) + 1 = ap length (decimal_many v (omega arith) small) ∙ simp length-append in
+    omega arith
 
 -- ---- bytes at a place
 
@@ -118,57 +94,71 @@ over_before d a b i c e h =
 
 -- ---- the ways through `put_decimal`
 
+-- the digits of v, of which i are left
+abbrev pub left : ℕ → ℕ → List ℕ
+left zero v = []
+left (suc i) v = decimal_of v
+
+left_some : (i v : ℕ) → 0 < i → left i v ≡ decimal_of v
+left_some zero v h = absurd (omega arith)
+left_some (suc i) v h = refl
+
+one_less : (v i : ℕ) → v < 256 ^ 8 → i ≡ length (decimal_of v) → (decimal_of v ≡ left (i - 1) (v / 10) ++ ((48 + v % 10) ∷ [])) × (i - 1 ≡ length (left (i - 1) (v / 10)))
+one_less v i small e =
+    by_bool (ltb v 10)
+    (λ t.
+    let h = ltb-true v 10 t in
+    let few = decimal_few v h in
+    let n : length (decimal_of v) ≡ 1 = ap length few in
+    let z : i - 1 ≡ 0 = omega arith in
+    let m : v % 10 ≡ v = omega arith in
+    rw (z, m) (few, refl))
+    (λ t.
+    let h = ltb-false v 10 t in
+    let many = decimal_many v h small in
+    let n : length (decimal_of v) ≡ length (decimal_of (v / 10)) + 1 = ap length many ∙ simp length-append in
+    let o = at_least_1 (v / 10) in
+    let l : left (i - 1) (v / 10) ≡ decimal_of (v / 10) = left_some (i - 1) (v / 10) (omega arith) in
+    rw l (many, omega arith))
+
 module _ (d : List ℕ) (at value : ℕ) where
   pub decimal_out : {f : Bool} {n : ℕ} → n ≡ length (decimal_of value) → f ≡ fits_in (length d) at n → not f ≡ true → d ≡ put_at d at (decimal_of value)
   decimal_out e q t = sym (put_at_out d at (decimal_of value) (unfitted (length d) at (length (decimal_of value)) (q ∙ rw e) (not-true _ t)))
 
-  -- the last digits stand at their place, and those of v do not
+  -- the last digits stand at their place, and the i digits of v do not
   pub record Standing (v i : ℕ) (e : List ℕ) : Type 0 where
     pub last : List ℕ
-    pub splits : decimal_of value ≡ decimal_of v ++ last
-    pub index : i ≡ length (decimal_of v)
+    pub splits : decimal_of value ≡ left i v ++ last
+    pub index : i ≡ length (left i v)
     pub bytes : e ≡ over d (at + i) last
 
   pub stand_start : {n : ℕ} → n ≡ length (decimal_of value) → Standing value n d
-  stand_start {n} e = record { last = []; splits = sym (append-nil (decimal_of value)); index = e; bytes = sym (over_none d (at + n)) }
+  stand_start {n} e =
+      let h = at_least_1 value in
+      let l : left n value ≡ decimal_of value = left_some n value (omega arith) in
+      record { last = []; splits = sym (append-nil (left n value) ∙ l); index = e ∙ sym (ap length l); bytes = sym (over_none d (at + n)) }
 
   module _ (v i : ℕ) {e : List ℕ} (s : Standing v i e) (room : at + length (decimal_of value) ≤ length d) where
     long : length (decimal_of value) ≡ i + length s.last
     long = let x = s.index in ap length s.splits ∙ simp length-append (omega arith)
 
-    pub stand_within : i ≤ length (decimal_of value)
-    stand_within = let l = long in omega arith
-
-    module _ (h : 10 ≤ v) (small : v < 256 ^ 8) where
-      more : length (decimal_of v) ≡ length (decimal_of (v / 10)) + 1
-      more = ap length (decimal_many v h small) ∙ simp length-append
-
-      pub stand_some : 1 ≤ i
-      stand_some = let x = s.index in let m = more in omega arith
-
-      pub stand_turn : Standing (v / 10) (i - 1) (set e (at + (i - 1)) (48 + v % 10))
-      stand_turn =
-          let x = s.index in
-          let m = more in
-          let l = long in
-          record {
-            last = (48 + v % 10) ∷ s.last;
-            splits = s.splits ∙ ap (λ (t : List ℕ). t ++ s.last) (decimal_many v h small) ∙ simp append_assoc;
-            index = omega arith;
-            bytes = ap (λ (t : List ℕ). set t (at + (i - 1)) (48 + v % 10)) s.bytes ∙ over_before d (at + (i - 1)) s.last (at + i) (48 + v % 10) (omega arith) (omega arith);
-          }
-
-    pub stand_end : v < 10 → set e at (48 + v) ≡ put_at d at (decimal_of value)
-    stand_end h =
-        let one = decimal_few v h in
-        let n : length (decimal_of v) ≡ 1 = ap length one in
-        let x = s.index in
+    pub stand_turn : 0 < i → v < 256 ^ 8 → Standing (v / 10) (i - 1) (set e (at + (i - 1)) (48 + v % 10))
+    stand_turn h small =
         let l = long in
-        let w : decimal_of value ≡ (48 + v) ∷ s.last = s.splits ∙ ap (λ (t : List ℕ). t ++ s.last) one in
-        ap (λ (t : List ℕ). set t at (48 + v)) s.bytes
-        ∙ over_before d at s.last (at + i) (48 + v) (omega arith) (omega arith)
-        ∙ ap (over d at) (sym w)
-        ∙ sym (put_at_in d at (decimal_of value) room)
+        let some : left i v ≡ decimal_of v = left_some i v h in
+        let w = one_less v i small (s.index ∙ ap length some) in
+        record {
+          last = (48 + v % 10) ∷ s.last;
+          splits = s.splits ∙ ap (λ (t : List ℕ). t ++ s.last) (some ∙ w.0) ∙ simp append_assoc;
+          index = w.1;
+          bytes = ap (λ (t : List ℕ). set t (at + (i - 1)) (48 + v % 10)) s.bytes ∙ over_before d (at + (i - 1)) s.last (at + i) (48 + v % 10) (omega arith) (omega arith);
+        }
+
+    pub stand_end : i ≡ 0 → e ≡ put_at d at (decimal_of value)
+    stand_end z =
+        let f : at + i ≡ at = omega arith in
+        let w : decimal_of value ≡ s.last = rw z at s.splits in
+        s.bytes ∙ rw (f, ← w) (sym (put_at_in d at (decimal_of value) room))
 
 -- ---- the ways through `digit_byte` and `put_hex`
 
@@ -242,11 +232,11 @@ module _ (d : List ℕ) (key : Key) where
 -- ---- whole lines
 
 module _ (line d : List ℕ) where
-  writes_in : (r : ℕ) (e : List ℕ) → length line ≤ length d → r ≡ length line → e ≡ over d 0 line → Writes line d r e
+  writes_in : (r : ℕ) (e : List ℕ) → length line ≤ length d → r ≡ length line → e ≡ over d 0 line → Writes line d (Some r) e
   unfolding Writes over
-  writes_in r e h p q = let z : 0 + length line ≡ length line = omega arith in rw (le-leb (length line) (length d) h) (p, rw z at q)
+  writes_in r e h p q = let z : 0 + length line ≡ length line = omega arith in rw (le-leb (length line) (length d) h) (ap Some p, rw z at q)
 
-  writes_out : length d < length line → Writes line d 0 d
+  writes_out : length d < length line → Writes line d None d
   unfolding Writes
   writes_out h = rw (lt-leb (length line) (length d) h) (refl, refl)
 
@@ -254,11 +244,11 @@ module _ (key : Key) (value : ℕ) (d : List ℕ) {n : ℕ} (size : n ≡ length
   length_entry : length (entry_line key value) ≡ length key * 2 + (2 + n)
   length_entry = let h = length_hex_of key in simp length-append (omega arith)
 
-  pub entry_1 : length d / 2 < length key → Writes (entry_line key value) d 0 d
+  pub entry_1 : length d / 2 < length key → Writes (entry_line key value) d None d
   entry_1 h = let l = length_entry in writes_out (entry_line key value) d (omega arith)
 
   module _ {f : Bool} (room : f ≡ fits_in (length d) (length key * 2) (n + 2)) where
-    pub entry_2 : not f ≡ true → Writes (entry_line key value) d 0 d
+    pub entry_2 : not f ≡ true → Writes (entry_line key value) d None d
     entry_2 t = let l = length_entry in let u = unfitted (length d) (length key * 2) (n + 2) room (not-true _ t) in writes_out (entry_line key value) d (omega arith)
 
     module _ (inside : not f ≡ false) where
@@ -266,7 +256,7 @@ module _ (key : Key) (value : ℕ) (d : List ℕ) {n : ℕ} (size : n ≡ length
       entry_within = fitted (length d) (length key * 2) (n + 2) room (not-false _ inside)
 
       pub entry_3 : {e1 e3 : List ℕ} → e1 ≡ put_at d 0 (hex_of key) → e3 ≡ put_at (set e1 (length key * 2) tab) (length key * 2 + 1) (decimal_of value)
-          → Writes (entry_line key value) d (length key * 2 + 2 + n) (set e3 (length key * 2 + 1 + n) lf)
+          → Writes (entry_line key value) d (Some (length key * 2 + 2 + n)) (set e3 (length key * 2 + 1 + n) lf)
       entry_3 {e1} {e3} p q =
           let hl = length_hex_of key in
           let w = entry_within in
@@ -286,12 +276,12 @@ module _ (number applied : ℕ) (d : List ℕ) {n m : ℕ} (size : n ≡ length 
   length_refused : length (refused_line number applied) ≡ 10 + n + m
   length_refused = simp length-append (omega arith)
 
-  pub refused_1 : length d < 10 + n + m → Writes (refused_line number applied) d 0 d
+  pub refused_1 : length d < 10 + n + m → Writes (refused_line number applied) d None d
   refused_1 h = let l = length_refused in writes_out (refused_line number applied) d (omega arith)
 
   module _ (room : 10 + n + m ≤ length d) where
     pub refused_2 : {e1 e2 e4 : List ℕ} → e1 ≡ copy_at d 0 (refused_word ++ (tab ∷ [])) 0 8 → e2 ≡ put_at e1 8 (decimal_of number)
-        → e4 ≡ put_at (set e2 (8 + n) tab) (9 + n) (decimal_of applied) → Writes (refused_line number applied) d (10 + n + m) (set e4 (9 + n + m) lf)
+        → e4 ≡ put_at (set e2 (8 + n) tab) (9 + n) (decimal_of applied) → Writes (refused_line number applied) d (Some (10 + n + m)) (set e4 (9 + n + m) lf)
     unfolding part
     refused_2 {e1} {e2} {e4} p q r =
         let ll = length_refused in

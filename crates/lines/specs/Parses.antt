@@ -1,26 +1,33 @@
 -- What `parse` answers and leaves. 01's 15: "bad text line, or too much text | .. a lent record buffer zero". Assumes nothing.
-use Rattle.std.specs.Prelude.{◌≡◌, List, ◌++◌, ℕ, ◌-◌, length, ltb}
+use Rattle.std.specs.Prelude.{◌≡◌, List, ◌++◌, ℕ, ◌-◌, length, ltb, Result}
+use Rattle.std.specs.Result.{result_unwrap_or}
 use Rattle.std.proofs.Math.Option.{Option, none, some}
 use Rattle.word.specs.Pick.{pick}
 use Rattle.word.specs.Num.{zeros}
 use Rattle.tree.specs.Batch.{Rec}
 use Rattle.changes.specs.Records.{encode_records}
-use Rattle.lines.specs.declared.Parsed.{Parsed}
-use Rattle.lines.specs.declared.Parsed.TheVariants.{Done, Refused}
+use Rattle.refusal.specs.Number.{answer_number}
+use Rattle.lines.specs.declared.ParseError.{ParseError}
+use Rattle.lines.specs.declared.ParseError.TheVariants.{BadText}
 use Rattle.lines.specs.Lines.{lines_of}
 
 -- "More than 16,384 bytes .. is 15"
 abbrev pub longest_text : ℕ
 longest_text = 16384
 
+-- what a text is found to be: records of so many bytes, or none
+abbrev pub Parsed : Type 0
+Parsed = Result ℕ ParseError
+
 -- 01's numbers
+abbrev pub parse_error_number : ParseError → ℕ
+parse_error_number BadText = 15
+
 abbrev pub parsed_number : Parsed → ℕ
-parsed_number (Done n) = 0
-parsed_number Refused = 15
+parsed_number = answer_number parse_error_number
 
 abbrev pub parsed_length : Parsed → ℕ
-parsed_length (Done n) = n
-parsed_length Refused = 0
+parsed_length r = result_unwrap_or r 0
 
 -- "more records than the lent record buffer holds, is 15"
 unfoldable pub fitting : ℕ → Option (List (Rec ℕ)) → Option (List (Rec ℕ))

@@ -20,7 +20,8 @@ pub struct Span {
     pub end: usize,
 }
 
-// Whether a case came out as the list has it, and the number that the code answered.
+// Whether a case came out as the list has it, and the number that the code answered: a case that differs has one too, so that
+// neither Option nor Result says it more plainly.
 #[derive(Clone, Copy)]
 pub struct Verdict {
     pub agreed: bool,
@@ -38,21 +39,13 @@ pub struct Tally {
     pub answers: [u64; NUMBERS],
 }
 
-// Widened and bounded once, so that callers needn't show it.
-fn wide(b: u8) -> u64
-    ensures { result < 256 }
-{
-    b as u64
-}
-
 // The byte at `at`, 0 where there is none.
 pub fn byte(s: &[u8], at: usize) -> usize
     ensures { result < 256 }
 {
-    if at < s.len() {
-        wide(s[at]) as usize
-    } else {
-        0
+    match s.get(at) {
+        Some(b) => *b as usize,
+        None => 0,
     }
 }
 
@@ -60,15 +53,9 @@ pub fn byte(s: &[u8], at: usize) -> usize
 pub fn place(s: &[u8], at: usize, n: usize) -> Span
     ensures { Within s.now result }
 {
-    if s.len() < at {
-        return Span { start: 0, end: 0 };
-    }
-    if s.len() - at < n {
-        return Span { start: 0, end: 0 };
-    }
-    Span {
-        start: at,
-        end: at + n,
+    match at.checked_add(n) {
+        Some(end) if end <= s.len() => Span { start: at, end },
+        _ => Span { start: 0, end: 0 },
     }
 }
 
@@ -77,7 +64,7 @@ pub fn number(s: &[u8], at: usize, n: usize) -> u64 {
     let span = place(s, at, n);
     let mut x: u64 = 0;
     for b in s[span.start..span.end].iter().rev() {
-        x = (x << 8) | wide(*b);
+        x = (x << 8) | *b as u64;
     }
     x
 }
@@ -94,14 +81,41 @@ pub fn part(s: &[u8], at: usize) -> Span
 pub fn filled(s: &[u8], from: usize, b: u8) -> bool
     ensures { result ≡ true → (k : ℕ) → from ≤ k → k < length s.now → slice_index s.now k ≡ b }
 {
-    let mut i = from;
-    while i < s.len() {
-        if s[i] != b {
-            return false;
-        }
-        i += 1;
+    s.iter().skip(from).all(|x| *x == b)
+}
+
+// Copies a part to its place in a buffer that has room for it there.
+fn put(room: &mut [u8], at: usize, part: &[u8]) {
+    if at <= room.len() && part.len() <= room.len() - at {
+        room[at..at + part.len()].copy_from_slice(part);
     }
-    true
+}
+
+// Lays the buffer that a block begins with out in the front of room, which is all zeros before; answers how long it is, and where
+// the block goes on. The buffer is zero but for some parts:
+//
+//     u32      how long it is
+//     u16      parts n
+//     n × (u32 place, part bytes)
+pub fn lay_out(room: &mut [u8], block: &[u8]) -> Span
+    ensures { result.end ≤ length block.now }
+{
+    let len = number(block, 0, 4) as usize;
+    let parts = number(block, 4, 2) as usize;
+    let mut at = place(block, 0, 6).end;
+    for _ in 0..parts {
+        let part = part(block, at + 4);
+        put(
+            room,
+            number(block, at, 4) as usize,
+            &block[part.start..part.end],
+        );
+        at = part.end;
+    }
+    Span {
+        start: len,
+        end: at,
+    }
 }
 
 // A number of four bytes, read from a file: how many blocks follow, or how long a block is; 0 where the file ends before.
@@ -150,9 +164,8 @@ impl Tally {
         if verdict.agreed {
             self.agreed = self.agreed.wrapping_add(1);
         }
-        let number = verdict.number as usize;
-        if number < NUMBERS {
-            self.answers[number] = self.answers[number].wrapping_add(1);
+        if let Some(times) = self.answers.get_mut(verdict.number as usize) {
+            *times = times.wrapping_add(1);
         }
         self
     }

@@ -16,8 +16,13 @@ const TWO_SLOTS: usize = 5144;
 
 const TO_NINE: [u8; 9] = [1, 2, 3, 4, 5, 6, 7, 8, 9];
 
-fn name<W: Write>(out: &mut W, night: &str) -> io::Result<()> {
-    writeln!(out, "-- {night}")
+// A night's name, and a store of so many empty slots; what is printed tells if there is none.
+fn begin<W: Write>(out: &mut W, night: &str, store: &mut [u8], count: u32) -> io::Result<()> {
+    writeln!(out, "-- {night}")?;
+    if slots::format(store, count).is_err() {
+        writeln!(out, "no store")?;
+    }
+    Ok(())
 }
 
 fn say_answer<W: Write>(out: &mut W, answer: &Answer) -> io::Result<()> {
@@ -35,56 +40,49 @@ fn night<W: Write>(out: &mut W, store: &mut [u8], sets: &[u8], removals: &[u8]) 
 }
 
 fn one_to_nine<W: Write>(out: &mut W) -> io::Result<()> {
-    name(out, "1 to 9 set")?;
     let mut store = [0u8; FIVE_SLOTS];
-    slots::format(&mut store, 5);
+    begin(out, "1 to 9 set", &mut store, 5)?;
     night(out, &mut store, &TO_NINE, b"")
 }
 
 fn five_last<W: Write>(out: &mut W) -> io::Result<()> {
-    name(out, "1..4,6..9, then 5")?;
     let mut store = [0u8; FIVE_SLOTS];
-    slots::format(&mut store, 5);
+    begin(out, "1..4,6..9, then 5", &mut store, 5)?;
     night(out, &mut store, b"\x01\x02\x03\x04\x06\x07\x08\x09", b"")?;
     night(out, &mut store, b"\x05", b"")
 }
 
 fn in_two_slots<W: Write>(out: &mut W) -> io::Result<()> {
-    name(out, "1 to 9 as one batch in two slots")?;
     let mut store = [0u8; TWO_SLOTS];
-    slots::format(&mut store, 2);
+    begin(out, "1 to 9 as one batch in two slots", &mut store, 2)?;
     night(out, &mut store, &TO_NINE, b"")
 }
 
 fn remove_nine<W: Write>(out: &mut W) -> io::Result<()> {
-    name(out, "from that tree, remove 9")?;
     let mut store = [0u8; FIVE_SLOTS];
-    slots::format(&mut store, 5);
+    begin(out, "from that tree, remove 9", &mut store, 5)?;
     night(out, &mut store, &TO_NINE, b"")?;
     night(out, &mut store, b"", b"\x09")
 }
 
 fn remove_five<W: Write>(out: &mut W) -> io::Result<()> {
-    name(out, "remove 5")?;
     let mut store = [0u8; FIVE_SLOTS];
-    slots::format(&mut store, 5);
+    begin(out, "remove 5", &mut store, 5)?;
     night(out, &mut store, &TO_NINE, b"")?;
     night(out, &mut store, b"", b"\x05")
 }
 
 fn remove_one<W: Write>(out: &mut W) -> io::Result<()> {
-    name(out, "with 10 added, remove 1")?;
     let mut store = [0u8; FIVE_SLOTS];
-    slots::format(&mut store, 5);
+    begin(out, "with 10 added, remove 1", &mut store, 5)?;
     night(out, &mut store, &TO_NINE, b"")?;
     night(out, &mut store, b"\x0a", b"")?;
     night(out, &mut store, b"", b"\x01")
 }
 
 fn set_then_del<W: Write>(out: &mut W) -> io::Result<()> {
-    name(out, "set then del of one key in one batch")?;
     let mut store = [0u8; FIVE_SLOTS];
-    slots::format(&mut store, 5);
+    begin(out, "set then del of one key in one batch", &mut store, 5)?;
     night(out, &mut store, b"\x01", b"\x01")
 }
 

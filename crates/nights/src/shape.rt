@@ -19,13 +19,11 @@ const STEP: usize = 18;
 fn start(slot: u64) -> usize
     ensures { result < 200000000 }
 {
-    if slot < 1 {
-        return 0;
+    if 1 <= slot && slot <= 65535 {
+        24 + 2560 * (slot as usize - 1)
+    } else {
+        0
     }
-    if 65535 < slot {
-        return 0;
-    }
-    24 + 2560 * (slot as usize - 1)
 }
 
 // How many separators the node in a slot has: its length is that of a child, and of a step for each.
@@ -33,11 +31,7 @@ fn separators(store: &[u8], slot: u64) -> usize
     ensures { result ≤ 8 }
 {
     let len = lists::number(store, start(slot), 4) as usize;
-    if len < 8 {
-        return 0;
-    }
-    let n = (len - 8) / STEP;
-    if n < 9 { n } else { 8 }
+    (len.saturating_sub(8) / STEP).min(8)
 }
 
 fn child(store: &[u8], slot: u64, i: usize) -> u64

@@ -3,54 +3,55 @@
 use mathlib.Core.Path.{◌≡◌, refl, sym, ap, ◌∙◌}
 use mathlib.Core.List.{List, [], ◌∷◌, ◌++◌, map, map-append, append_assoc, append-nil}
 use Prim.Native.Nat.{ℕ, zero, suc, ◌+◌, ◌-◌, ◌≤◌, ◌<◌}
-use lib.ListN.{length, take, drop, get_or, set, replicate, length-append, length-take, length-drop, length-set, length-replicate, replicate-append-replicate, drop_of_length-le}
-use lib.Seq.{take_all, take-nil, take_at, take-add, take-append-le, drop-append-le, take-append-add, drop-append-add, length-take-le, drop-cons, set_out, set-append_left}
+use lib.ListN.{length, take, drop, set, replicate, length-append, length-take, length-drop, length-set, length-replicate, replicate-append-replicate, drop_of_length-le}
+use lib.Seq.{take_all, drop-drop, drop_at, take_at, take-append-le, drop-append-le, take-append-add, drop-append-add, length-take-le, set-append_left}
+use borrow.Rule.Slice.PartMut.{put_mid}
 use native.Mathlib.Omega.{arith}
-use native.Mathlib.Numerals.{add-one}
+use Rattle.std.specs.List.{copy_within}
 use Rattle.word.specs.Part.{part, over}
-use Rattle.word.proofs.PartLaws.{length_part, length_over, over_none, over_beside, over_seam, set_over, part_none}
+use Rattle.word.proofs.PartLaws.{length_over}
 use Rattle.node.specs.Chain.{padded}
-use Rattle.node.specs.EditMirror.{fill, copied}
-use Rattle.node.specs.Edit.{inserted, removed, insert_at, remove_at, change_at}
+use Rattle.node.specs.Edit.{inserted, removed, change_at}
 
--- ---- stores one after the other
+-- ---- writes to parts
 
 module _ {A : Type 0} where
   pub drop_past : (l : List A) (i : ℕ) → length l ≤ i → drop i l ≡ []
   drop_past l i h = drop_of_length-le l h
 
-  fill_over : (d : List A) (at : ℕ) (xs : List A) → at + length xs ≤ length d → fill d at xs ≡ over d at xs
-  fill_over d at [] h = sym (over_none d at)
-  fill_over d at (x ∷ xs) h =
-      fill_over (set d at x) (at + 1) xs (rw length-set (omega arith))
-      ∙ rw (set_over d at x (omega arith)) (over_beside d at (x ∷ []) xs (omega arith))
+  -- what is left by a write to k elements from a on
+  pub put_over : (l : List A) (a k : ℕ) (b : List A) → length b ≡ k → put_mid a k l b ≡ over l a b
+  unfolding over
+  put_over l a k b e = rw (e, drop-drop k a l)
 
-  fill_out : (d : List A) (at : ℕ) (xs : List A) → length d ≤ at → fill d at xs ≡ d
-  fill_out d at [] h = refl
-  fill_out d at (x ∷ xs) h = rw (set_out d at x h) (fill_out d (at + 1) xs (omega arith))
+  -- and by one to all from a on
+  pub put_end : (l : List A) (a k : ℕ) (b : List A) → length l ≤ a + k → put_mid a k l b ≡ take a l ++ b
+  put_end l a k b h = rw (drop-drop k a l, drop_past l (a + k) h, append-nil b)
 
-  module _ (d : List A) (at : ℕ) (s : List A) (from : ℕ) where
-    pub copied_none : copied d at s from 0 ≡ d
-    unfolding copied
-    copied_none = rw part_none
+  -- new ones in front, and the others moved up by as many places
+  pub entered_front : (l b : List A) {o : List A} → length b ≤ length l → o ≡ copy_within l 0 (length l - length b) (length b) → b ++ drop (length b) o ≡ take (length l) (b ++ l)
+  entered_front l b {o} h e =
+      let k : ℕ = length b in
+      let j : ℕ = length l - k in
+      let z : j - 0 ≡ j = omega arith in
+      let q : drop (k + j) l ≡ [] = drop_past l (k + j) (omega arith) in
+      let r : take k l ++ take j (drop 0 l) ++ [] ≡ take k l ++ take j l = append-nil (take k l ++ take j l) in
+      let p : o ≡ take k l ++ take j l = e ∙ rw (z, q, r) in
+      let d : drop k o ≡ take j l = ap (drop k) p ∙ drop_at (take k l) (take j l) k (length-take-le k l h) in
+      let n : length l ≡ length b + j = omega arith in
+      rw d (sym (ap (λ (m : ℕ). take m (b ++ l)) n ∙ take-append-add b l j))
 
-    pub copied_past : (n : ℕ) → length d ≤ at → copied d at s from n ≡ d
-    unfolding copied
-    copied_past n h = fill_out d at (part s from n) h
-
-    pub copied_short : (n : ℕ) → length s ≤ from → copied d at s from n ≡ d
-    unfolding copied part
-    copied_short n h = rw (drop_past s from h, take-nil n)
-
-    pub copied_turn : (n : ℕ) (z : A) → 0 < n → from < length s → copied d at s from n ≡ copied (set d at (get_or s from z)) (at + 1) s (from + 1) (n - 1)
-    unfolding copied part
-    copied_turn n z h g =
-        let e : n ≡ suc (n - 1) = omega arith in
-        ap (λ (l : List A). fill d at (take n l)) (drop-cons s from z g) ∙ rw (add-one from) (ap (λ (m : ℕ). fill d at (take m (get_or s from z ∷ drop (suc from) s))) e)
-
-    pub copied_in : (n : ℕ) → at + n ≤ length d → from + n ≤ length s → copied d at s from n ≡ over d at (part s from n)
-    unfolding copied
-    copied_in n h g = fill_over d at (part s from n) (rw (length_part s from n g) h)
+  -- new ones behind, and the others moved down by as many places
+  pub entered_behind : (l b : List A) {o : List A} → length b ≤ length l → o ≡ copy_within l (length b) (length l) 0
+      → put_mid (length l - length b) (length o - (length l - length b)) o b ≡ drop (length b) l ++ b
+  entered_behind l b {o} h e =
+      let k : ℕ = length b in
+      let j : ℕ = length l - k in
+      let w : length (drop k l) ≡ j = length-drop k l in
+      let t : take j (drop k l) ≡ drop k l = take_all j (drop k l) (omega arith) in
+      let p : o ≡ drop k l ++ drop (0 + j) l = e ∙ rw t in
+      let f : take j o ≡ drop k l = ap (take j) p ∙ take_at (drop k l) (drop (0 + j) l) j w in
+      put_end o j (length o - j) b (omega arith) ∙ rw f
 
   pub part_end : (a : List A) (j k : ℕ) → length a ≡ j + k → part a j k ≡ drop j a
   unfolding part
@@ -120,46 +121,24 @@ module _ {A : Type 0} (a : List A) (i : ℕ) where
   remove_past w zs n e h =
       rw (take_all i a (omega arith), drop_past a (i + w) (omega arith), append-nil a) (sym (take_at a zs n e))
 
-  to_part : (k m : ℕ) → k ≡ m → take k (drop i a) ≡ part a i m
-  unfolding part
-  to_part k m e = rw e
+  -- put in or taken out by a write to all from i on, which are k
+  module _ (k : ℕ) (all : i + k ≡ length a) where
+    those : take k (drop i a) ≡ drop i a
+    those = take_all k (drop i a) (simp length-drop (omega arith))
 
-  over_end : (p : List A) → i + 1 + length p ≡ length a → over a (i + 1) p ≡ take i a ++ (take 1 (drop i a) ++ p)
-  unfolding over
-  over_end p e = rw (drop_past a (i + 1 + length p) (omega arith), append-nil p, take-add i 1 a) (append_assoc (take i a) (take 1 (drop i a)) p)
+    pub open_part : (b : List A) {c : List A} → c ≡ take (length (take k (drop i a))) (b ++ take k (drop i a)) → put_mid i k a c ≡ take (length a) (inserted i b a)
+    unfolding inserted
+    open_part b {c} e =
+        let w : length (drop i a) ≡ k = length-drop i a ∙ omega arith in
+        let f : c ≡ take k (b ++ drop i a) = rw (those, w) at e in
+        let l : length (take i a) ≡ i = length-take-le i a (omega arith) in
+        let n : length a ≡ length (take i a) + k = omega arith in
+        put_end a i k c (omega arith) ∙ rw f (sym (ap (λ (m : ℕ). take m (take i a ++ (b ++ drop i a))) n ∙ take-append-add (take i a) (b ++ drop i a) k))
 
-  over_front : (p : List A) (m : ℕ) → i + length p ≡ m → over a i p ≡ (take i a ++ p) ++ (drop m a ++ [])
-  unfolding over
-  over_front p m e = rw (e, append-nil (drop m a)) (sym (append_assoc (take i a) p (drop m a)))
-
-  -- the code's stores: those behind go one up, then x goes in
-  pub open_array : (x : A) (m n : ℕ) → length a ≡ n → suc m ≡ n → i ≤ m → set (copied a (i + 1) a i (m - i)) i x ≡ take n (insert_at i x a)
-  open_array x m n e f h =
-      let p : List A = part a i (m - i) in
-      let lp : length p ≡ m - i = length_part a i (m - i) (omega arith) in
-      let lt : length (take i a) ≡ i = length-take-le i a (omega arith) in
-      let up : over a (i + 1) p ≡ take i a ++ (take 1 (drop i a) ++ p) = over_end p (omega arith) in
-      let one : length (take 1 (drop i a)) ≡ 1 = length-take-le 1 (drop i a) (simp length-drop (omega arith)) in
-      let put : set (take i a ++ (take 1 (drop i a) ++ p)) i x ≡ take i a ++ ((x ∷ []) ++ p) =
-      set_over (take i a ++ (take 1 (drop i a) ++ p)) i x (simp length-append (omega arith))
-      ∙ over_seam (take i a) (take 1 (drop i a)) (x ∷ []) p i lt one in
-      rw (copied_in a (i + 1) a i (m - i) (omega arith) (omega arith), up, put) (sym (take_inserted (x ∷ []) n (omega arith) (omega arith) ∙ rw (to_part (n - (i + 1)) (m - i) (omega arith))))
-
-  -- those behind go one down, then z comes in
-  pub close_array : (z : A) (m n : ℕ) → length a ≡ n → suc m ≡ n → i ≤ m → set (copied a i a (i + 1) (m - i)) m z ≡ take n (remove_at i a ++ (z ∷ []))
-  close_array z m n e f h =
-      let p : List A = drop (i + 1) a in
-      let lp : length p ≡ m - i = length-drop (i + 1) a ∙ omega arith in
-      let lt : length (take i a) ≡ i = length-take-le i a (omega arith) in
-      let whole : part a (i + 1) (m - i) ≡ p = part_end a (i + 1) (m - i) (omega arith) in
-      let down : over a i p ≡ (take i a ++ p) ++ (drop m a ++ []) = over_front p m (omega arith) in
-      let one : length (drop m a) ≡ 1 = length-drop m a ∙ omega arith in
-      let front : length (take i a ++ p) ≡ m = simp length-append (omega arith) in
-      let put : set ((take i a ++ p) ++ (drop m a ++ [])) m z ≡ (take i a ++ p) ++ ((z ∷ []) ++ []) =
-      set_over ((take i a ++ p) ++ (drop m a ++ [])) m z (simp length-append (omega arith))
-      ∙ over_seam (take i a ++ p) (drop m a) (z ∷ []) [] m front one in
-      rw (copied_in a i a (i + 1) (m - i) (omega arith) (omega arith), whole, down, put)
-      (append_assoc (take i a) p (z ∷ []) ∙ sym (take_removed 1 (z ∷ []) n e refl (omega arith)))
+    pub close_part : (w : ℕ) (zs : List A) {c : List A} → w ≤ k → length zs ≡ w → c ≡ drop (length zs) (take k (drop i a)) ++ zs → put_mid i k a c ≡ take (length a) (removed i w a ++ zs)
+    close_part w zs {c} h f e =
+        let g : c ≡ drop w (drop i a) ++ zs = rw (those, f) at e in
+        put_end a i k c (omega arith) ∙ rw (g, drop-drop w i a) (sym (take_removed w zs (length a) refl f (omega arith)))
 
 -- ---- zeros
 
@@ -178,8 +157,21 @@ module _ {A : Type 0} (z : A) where
   unfolding over padded
   over_zeros n l = let e : 0 + length l ≡ length l = omega arith in rw (e, drop_repeated (length l) n)
 
-  pub copied_zeros : (n : ℕ) (s : List A) (from m : ℕ) → m ≤ n → from + m ≤ length s → copied (replicate n z) 0 s from m ≡ padded n z (part s from m)
-  copied_zeros n s from m h g = copied_in (replicate n z) 0 s from m (omega (arith, length-replicate n z)) g ∙ over_zeros n (part s from m)
+  -- zeros over all from m on
+  pub kept_array : (n m k : ℕ) (l : List A) {c : List A} → length l ≡ n → m + k ≡ n → c ≡ replicate (length (take k (drop m l))) z → put_mid m k l c ≡ padded n z (take m l)
+  unfolding padded
+  kept_array n m k l {c} e h p =
+      let w : length (take k (drop m l)) ≡ n - length (take m l) = simp (length-drop, length-take) (omega arith) in
+      put_end l m k c (omega arith) ∙ rw (p, w)
+
+  -- m zeros come in behind
+  pub rest_array : (n m : ℕ) (l : List A) {c : List A} → length l ≡ n → m ≤ n → c ≡ drop (length (take m (replicate n z))) l ++ take m (replicate n z) → c ≡ padded n z (drop m l)
+  unfolding padded
+  rest_array n m l {c} e h p =
+      let w : n - length (drop m l) ≡ m = simp length-drop (omega arith) in
+      let q : c ≡ drop (length (replicate m z)) l ++ replicate m z = rw (take_repeated m n h) at p in
+      let r : length (replicate m z) ≡ m = length-replicate m z in
+      rw r at q ∙ rw w
 
   pub padded_full : (n : ℕ) (l : List A) → length l ≡ n → padded n z l ≡ l
   unfolding padded

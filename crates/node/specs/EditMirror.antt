@@ -17,10 +17,6 @@ abbrev pub fill : {A : Type 0} → List A → ℕ → List A → List A
 fill l i [] = l
 fill l i (x ∷ xs) = fill (set l i x) (i + 1) xs
 
--- n of src from `from` on, stored in dst at `at`, as far as both reach
-unfoldable pub copied : {A : Type 0} → List A → ℕ → List A → ℕ → ℕ → List A
-copied dst at src from n = fill dst at (part src from n)
-
 -- ---- one place read or set
 
 unfoldable pub sep_at : Node → ℕ → Separator

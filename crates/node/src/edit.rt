@@ -1,10 +1,9 @@
 // Edits of a node: each takes the node and hands it back, and is total. Unused places stay zero.
-ghost use Rattle.std.specs.Prelude.{◌≡◌, [], ◌∷◌, ◌++◌, min, ◌+◌, ◌*◌, ◌-◌, get_or, length, take};
+ghost use Rattle.std.specs.Prelude.{◌≡◌, [], ◌∷◌, ◌++◌, min, ◌+◌, ◌*◌, ◌-◌, ◌≤◌, get_or, length, take, drop};
 ghost use Rattle.word.specs.Num.{zeros};
-ghost use Rattle.word.specs.At.{copy_at};
 ghost use Rattle.node.specs.Chain.{child_of, value_of, node_of};
 ghost use Rattle.node.specs.Edit.{insert_at, inserted, remove_at, removed, separator_of};
-ghost use Rattle.node.specs.EditMirror.{copied, sep_at, with_separator, with_child, opened, inserted_at, closed, removed_at, kept_to, rest_from, joined_with, split_node_at};
+ghost use Rattle.node.specs.EditMirror.{sep_at, with_separator, with_child, opened, inserted_at, closed, removed_at, kept_to, rest_from, joined_with, split_node_at};
 
 use crate::{Child, Index, Node, Separator, Value};
 
@@ -15,234 +14,60 @@ pub struct Halves {
     pub right: Node,
 }
 
-// ---- arrays: n elements of src from `from` on to dst at `at`, as far as both reach
+// ---- arrays: what comes in moves the others by as many places, and as many are lost
 
-fn copy_children(dst: [Child; 9], at: usize, src: [Child; 9], from: usize, n: usize) -> [Child; 9]
-    ensures { result ≡ copied dst at src from n }
+fn enter_front<T: Copy>(xs: &mut [T], new: &[T])
+    requires { length new.now ≤ length xs.old }
+    ensures { xs.new ≡ take (length xs.old) (new.now ++ xs.old) }
 {
-    let mut out = dst;
-    let mut i = at;
-    let mut j = from;
-    let mut more = n;
-    while 0 < more {
-        if 8 < i {
-            return out;
-        }
-        if 8 < j {
-            return out;
-        }
-        out[i] = src[j];
-        i += 1;
-        j += 1;
-        more -= 1;
-    }
-    out
+    let left = xs.len() - new.len();
+    xs.copy_within(0..left, new.len());
+    xs[..new.len()].copy_from_slice(new);
 }
 
-fn copy_values(dst: [Value; 8], at: usize, src: [Value; 8], from: usize, n: usize) -> [Value; 8]
-    ensures { result ≡ copied dst at src from n }
+fn enter_behind<T: Copy>(xs: &mut [T], new: &[T])
+    requires { length new.now ≤ length xs.old }
+    ensures { xs.new ≡ drop (length new.now) xs.old ++ new.now }
 {
-    let mut out = dst;
-    let mut i = at;
-    let mut j = from;
-    let mut more = n;
-    while 0 < more {
-        if 7 < i {
-            return out;
-        }
-        if 7 < j {
-            return out;
-        }
-        out[i] = src[j];
-        i += 1;
-        j += 1;
-        more -= 1;
-    }
-    out
+    let left = xs.len() - new.len();
+    xs.copy_within(new.len().., 0);
+    xs[left..].copy_from_slice(new);
 }
 
-fn copy_lens(dst: [usize; 8], at: usize, src: [usize; 8], from: usize, n: usize) -> [usize; 8]
-    ensures { result ≡ copied dst at src from n }
-{
-    let mut out = dst;
-    let mut i = at;
-    let mut j = from;
-    let mut more = n;
-    while 0 < more {
-        if 7 < i {
-            return out;
-        }
-        if 7 < j {
-            return out;
-        }
-        out[i] = src[j];
-        i += 1;
-        j += 1;
-        more -= 1;
-    }
-    out
-}
+// ---- one put in: past the end there is no room for it
 
-// ---- one element put in: what it pushes past the end is lost
-
-fn open_children(children: [Child; 9], i: usize, child: Child) -> [Child; 9]
-    ensures { result ≡ take 9 (insert_at i child children) }
+fn open<T: Copy>(xs: &mut [T], i: usize, x: T)
+    ensures { xs.new ≡ take (length xs.old) (insert_at i x xs.old) }
 {
-    if 8 < i {
-        return children;
-    }
-    let mut out = copy_children(children, i + 1, children, i, 8 - i);
-    out[i] = child;
-    out
-}
-
-fn open_values(values: [Value; 8], i: usize, value: Value) -> [Value; 8]
-    ensures { result ≡ take 8 (insert_at i value values) }
-{
-    if 7 < i {
-        return values;
-    }
-    let mut out = copy_values(values, i + 1, values, i, 7 - i);
-    out[i] = value;
-    out
-}
-
-fn open_lens(lens: [usize; 8], i: usize, len: usize) -> [usize; 8]
-    ensures { result ≡ take 8 (insert_at i len lens) }
-{
-    if 7 < i {
-        return lens;
-    }
-    let mut out = copy_lens(lens, i + 1, lens, i, 7 - i);
-    out[i] = len;
-    out
-}
-
-// The bytes from `at` on move one block up, from the last one on; the last block is lost.
-fn move_up(keys: &mut [u8], at: usize)
-    ensures { keys.new ≡ copy_at keys.old (at + 288) keys.old at (length keys.old - 288 - at) }
-{
-    if keys.len() < 288 {
-        return;
-    }
-    let mut k = keys.len() - 288;
-    while at < k {
-        k -= 1;
-        keys[k + 288] = keys[k];
+    if i < xs.len() {
+        enter_front(&mut xs[i..], &[x]);
     }
 }
 
-// Past the eighth block nothing moves, and there is no room for one.
 fn open_keys(keys: &mut [u8; 2304], i: usize, key: &[u8; 288])
     ensures { keys.new ≡ take 2304 (inserted (288 * i) key.now keys.old) }
 {
-    let at = 288 * least(i, 8);
-    move_up(keys, at);
-    word::copy(keys, at, key, 0, 288);
+    if i < 8 {
+        enter_front(&mut keys[288 * i..], key);
+    }
 }
 
-// ---- one element gone: a zero comes in at the end
+// ---- one gone: a zero comes in at the end
 
-fn close_children(children: [Child; 9], i: usize) -> [Child; 9]
-    ensures { result ≡ take 9 (remove_at i children ++ (child_of 0 ∷ [])) }
+fn close<T: Copy>(xs: &mut [T], i: usize, zero: T)
+    ensures { xs.new ≡ take (length xs.old) (remove_at i xs.old ++ (zero ∷ [])) }
 {
-    if 8 < i {
-        return children;
-    }
-    let mut out = copy_children(children, i, children, i + 1, 8 - i);
-    out[8] = Child(0);
-    out
-}
-
-fn close_values(values: [Value; 8], i: usize) -> [Value; 8]
-    ensures { result ≡ take 8 (remove_at i values ++ (value_of 0 ∷ [])) }
-{
-    if 7 < i {
-        return values;
-    }
-    let mut out = copy_values(values, i, values, i + 1, 7 - i);
-    out[7] = Value(0);
-    out
-}
-
-fn close_lens(lens: [usize; 8], i: usize) -> [usize; 8]
-    ensures { result ≡ take 8 (remove_at i lens ++ (0 ∷ [])) }
-{
-    if 7 < i {
-        return lens;
-    }
-    let mut out = copy_lens(lens, i, lens, i + 1, 7 - i);
-    out[7] = 0;
-    out
-}
-
-// The bytes behind the block at `at` move one block down, from the first one on; the last block stays as it was.
-fn move_down(keys: &mut [u8], at: usize)
-    ensures { keys.new ≡ copy_at keys.old at keys.old (at + 288) (length keys.old - 288 - at) }
-{
-    if keys.len() < 288 {
-        return;
-    }
-    let n = keys.len() - 288;
-    let mut k = at;
-    while k < n {
-        keys[k] = keys[k + 288];
-        k += 1;
+    if i < xs.len() {
+        enter_behind(&mut xs[i..], &[zero]);
     }
 }
 
-// Past the eighth block nothing moves, and none is cleared.
 fn close_keys(keys: &mut [u8; 2304], i: usize)
     ensures { keys.new ≡ take 2304 (removed (288 * i) 288 keys.old ++ zeros 288) }
 {
-    let at = 288 * least(i, 8);
-    move_down(keys, at);
-    if at < 2304 {
-        word::clear(keys, 2016, 288);
+    if i < 8 {
+        enter_behind(&mut keys[288 * i..], &[0; 288]);
     }
-}
-
-// ---- keys from one block on, as many blocks
-
-fn part_of_keys(keys: &[u8; 2304], from: usize, n: usize) -> [u8; 2304]
-    ensures { result ≡ copy_at (zeros 2304) 0 keys.now from n }
-{
-    let mut out = [0u8; 2304];
-    word::copy(&mut out, 0, keys, from, n);
-    out
-}
-
-fn block(keys: &[u8; 2304], at: usize) -> [u8; 288]
-    ensures { result ≡ copy_at (zeros 288) 0 keys.now at 288 }
-{
-    let mut out = [0u8; 288];
-    word::copy(&mut out, 0, keys, at, 288);
-    out
-}
-
-fn put_block(keys: &mut [u8; 2304], at: usize, key: &[u8; 288])
-    ensures { keys.new ≡ copy_at keys.old at key.now 0 288 }
-{
-    word::copy(keys, at, key, 0, 288);
-}
-
-// The first n bytes of more.
-fn put_blocks(keys: &mut [u8; 2304], at: usize, more: &[u8; 2304], n: usize)
-    ensures { keys.new ≡ copy_at keys.old at more.now 0 n }
-{
-    word::copy(keys, at, more, 0, n);
-}
-
-fn less(a: usize, b: usize) -> usize
-    ensures { result ≡ a - b }
-{
-    if a < b { 0 } else { a - b }
-}
-
-fn least(a: usize, b: usize) -> usize
-    ensures { result ≡ min a b }
-{
-    if a < b { a } else { b }
 }
 
 impl Separator {
@@ -251,11 +76,11 @@ impl Separator {
         ensures { result ≡ separator_of (record { key = take 288 key.now; val = value.0 }) }
     {
         let mut bytes = [0u8; 288];
-        let len = least(key.len(), 288);
+        let len = key.len().min(288);
         word::copy(&mut bytes, 0, key, 0, len);
         Separator {
-            value: value,
-            len: len,
+            value,
+            len,
             key: bytes,
         }
     }
@@ -296,13 +121,12 @@ impl Node {
                 key: [0u8; 288],
             };
         }
-        let value = self.values[i];
-        let len = self.lens[i];
-        let key = block(&self.keys, 288 * i);
+        let mut key = [0u8; 288];
+        key.copy_from_slice(&self.keys[288 * i..288 * i + 288]);
         Separator {
-            value: value,
-            len: len,
-            key: key,
+            value: self.values[i],
+            len: self.lens[i],
+            key,
         }
     }
 
@@ -321,10 +145,9 @@ impl Node {
     {
         let i = i.0;
         if i < 8 {
-            let value = sep.value;
-            self.values[i] = value;
+            self.values[i] = sep.value;
             self.lens[i] = sep.len;
-            put_block(&mut self.keys, 288 * i, &sep.key);
+            self.keys[288 * i..288 * i + 288].copy_from_slice(&sep.key);
         }
         self
     }
@@ -333,18 +156,13 @@ impl Node {
     fn shift_from(mut self, i: usize, j: usize, sep: Separator, child: Child) -> Node
         ensures { result ≡ opened self i j sep child }
     {
-        let count = self.count;
-        if 7 < count {
-            return self;
+        if self.count < 8 {
+            open(&mut self.children, j, child);
+            open(&mut self.values, i, sep.value);
+            open(&mut self.lens, i, sep.len);
+            open_keys(&mut self.keys, i, &sep.key);
+            self.count += 1;
         }
-        let children = open_children(self.children, j, child);
-        let values = open_values(self.values, i, sep.value);
-        let lens = open_lens(self.lens, i, sep.len);
-        open_keys(&mut self.keys, i, &sep.key);
-        self.count = count + 1;
-        self.children = children;
-        self.values = values;
-        self.lens = lens;
         self
     }
 
@@ -374,18 +192,13 @@ impl Node {
     fn remove_from(mut self, i: usize, j: usize) -> Node
         ensures { result ≡ closed self i j }
     {
-        let count = self.count;
-        if count < 1 {
-            return self;
+        if 0 < self.count {
+            close(&mut self.children, j, Child(0));
+            close(&mut self.values, i, Value(0));
+            close(&mut self.lens, i, 0);
+            close_keys(&mut self.keys, i);
+            self.count -= 1;
         }
-        let children = close_children(self.children, j);
-        let values = close_values(self.values, i);
-        let lens = close_lens(self.lens, i);
-        close_keys(&mut self.keys, i);
-        self.count = count - 1;
-        self.children = children;
-        self.values = values;
-        self.lens = lens;
         self
     }
 
@@ -408,44 +221,31 @@ impl Node {
     }
 
     // The first separators with their children, as many.
-    fn keep(self, m: usize) -> Node
+    fn keep(mut self, m: usize) -> Node
         ensures { result ≡ kept_to self m }
     {
-        if 8 < m {
-            return self;
+        if m <= 8 {
+            self.count = m;
+            self.children[m + 1..].fill(Child(0));
+            self.values[m..].fill(Value(0));
+            self.lens[m..].fill(0);
+            self.keys[288 * m..].fill(0);
         }
-        let children = copy_children([Child(0); 9], 0, self.children, 0, m + 1);
-        let values = copy_values([Value(0); 8], 0, self.values, 0, m);
-        let lens = copy_lens([0usize; 8], 0, self.lens, 0, m);
-        let keys = part_of_keys(&self.keys, 0, 288 * m);
-        Node {
-            count: m,
-            children: children,
-            values: values,
-            lens: lens,
-            keys: keys,
-        }
+        self
     }
 
     // The separators from an index on, with their children.
-    fn rest(self, m: usize) -> Node
+    fn rest(mut self, m: usize) -> Node
         ensures { result ≡ rest_from self m }
     {
-        let count = self.count;
-        if 8 < m {
-            return self;
+        if m <= 8 {
+            self.count = self.count.saturating_sub(m);
+            enter_behind(&mut self.children, &[Child(0); 9][..m]);
+            enter_behind(&mut self.values, &[Value(0); 8][..m]);
+            enter_behind(&mut self.lens, &[0; 8][..m]);
+            enter_behind(&mut self.keys, &[0; 2304][..288 * m]);
         }
-        let children = copy_children([Child(0); 9], 0, self.children, m, 9 - m);
-        let values = copy_values([Value(0); 8], 0, self.values, m, 8 - m);
-        let lens = copy_lens([0usize; 8], 0, self.lens, m, 8 - m);
-        let keys = part_of_keys(&self.keys, 288 * m, 2304 - 288 * m);
-        Node {
-            count: less(count, m),
-            children: children,
-            values: values,
-            lens: lens,
-            keys: keys,
-        }
+        self
     }
 
     // A full node with a separator at an index and the child right of it, as two nodes of four and the one between.
@@ -459,8 +259,8 @@ impl Node {
             self = self.keep(3).insert_at(i, sep, child);
             return Halves {
                 left: self,
-                middle: middle,
-                right: right,
+                middle,
+                right,
             };
         }
         if 4 < at {
@@ -469,8 +269,8 @@ impl Node {
             self = self.keep(4);
             return Halves {
                 left: self,
-                middle: middle,
-                right: right,
+                middle,
+                right,
             };
         }
         let right = self.rest(4).set_child(Index(0), child);
@@ -478,7 +278,7 @@ impl Node {
         Halves {
             left: self,
             middle: sep,
-            right: right,
+            right,
         }
     }
 
@@ -491,23 +291,14 @@ impl Node {
         if !word::fits(7, m, n) {
             return self;
         }
-        let children = copy_children(self.children, m + 1, right.children, 0, n + 1);
-        let mut values = self.values;
-        let value = sep.value;
-        values[m] = value;
-        let values = copy_values(values, m + 1, right.values, 0, n);
-        let mut lens = self.lens;
-        lens[m] = sep.len;
-        let lens = copy_lens(lens, m + 1, right.lens, 0, n);
-        put_block(&mut self.keys, 288 * m, &sep.key);
-        put_blocks(&mut self.keys, 288 * m + 288, &right.keys, 288 * n);
-        let keys = self.keys;
-        Node {
-            count: m + n + 1,
-            children: children,
-            values: values,
-            lens: lens,
-            keys: keys,
-        }
+        self.children[m + 1..m + n + 2].copy_from_slice(&right.children[..n + 1]);
+        self.values[m] = sep.value;
+        self.values[m + 1..m + n + 1].copy_from_slice(&right.values[..n]);
+        self.lens[m] = sep.len;
+        self.lens[m + 1..m + n + 1].copy_from_slice(&right.lens[..n]);
+        self.keys[288 * m..288 * m + 288].copy_from_slice(&sep.key);
+        self.keys[288 * m + 288..288 * (m + n + 1)].copy_from_slice(&right.keys[..288 * n]);
+        self.count = m + n + 1;
+        self
     }
 }

@@ -16,6 +16,7 @@ pub struct Index(pub usize);
 #[derive(Clone, Copy)]
 pub struct Child(pub u64);
 
+// A key in an array with its length beside it, since nothing stands in a heap; so it lies in node and cursor too.
 #[derive(Clone, Copy)]
 pub struct Separator {
     pub value: Value,
@@ -24,6 +25,8 @@ pub struct Separator {
 }
 
 // Separators 0 to count - 1, and one more child than separators. The key of separator i stands in keys from 288 * i on.
+// Arrays side by side with a count, and no list of separators: so the C interface lends a node (WritesNode of capi), and so
+// node_of and the theorems on chains speak of it.
 #[derive(Clone, Copy)]
 pub struct Node {
     pub count: usize,

@@ -1,3 +1,4 @@
 pub mod ZipIndex
 pub mod ReadPlaces
 pub mod ReadSight
+pub mod Refused

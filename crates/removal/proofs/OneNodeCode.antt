@@ -2,8 +2,9 @@
 -- that loses one; in the words of RemoveMirror of `outcome` (a law NAME-k is of the k-th return). Assumes nothing.
 use mathlib.Core.Path.{◌≡◌, refl, sym, ap, subst, ◌∙◌}
 use mathlib.Core.List.{List, [], ◌∷◌}
-use mathlib.Core.Bool.{Bool, true, false, not}
+use mathlib.Core.Bool.{true, false}
 use mathlib.Core.Option.{Option, none, some}
+use Rattle.std.specs.Prelude.{Result, Ok, ⊤}
 use Prim.Native.Nat.{ℕ, zero, suc, ◌-◌, ◌≤◌, ◌<◌}
 use lib.ListN.{length, get_or}
 use lib.Dec.{ltb}
@@ -24,19 +25,21 @@ use Rattle.node.proofs.EditLaws.{node_set_separator, fit_change}
 use Rattle.slots.specs.Mirror.{write_node, free_slot, set_root}
 use Rattle.slots.specs.Code.{written_in, read_node_at, node_in, first_in, rest_in, misfits, chain_fits}
 use Rattle.slots.proofs.CodeLaws.{RestFits, fits_chain}
-use Rattle.outcome.specs.declared.Came.TheVariants.{Bad, Plain}
-use Rattle.outcome.specs.declared.Outcome.{Outcome}
-use Rattle.outcome.specs.Outcome.{outcome_of, outcome_with, came_of, of_fell, Does, Lasts, PutsIn, RemovesHere, RemovesEnd}
+use Rattle.outcome.specs.declared.BadBytes.{BadBytes}
+use Rattle.outcome.specs.declared.Came as code
+use Rattle.outcome.specs.declared.Came.TheVariants.{Plain}
+use Rattle.outcome.specs.declared.Taken.{Taken}
+use Rattle.outcome.specs.Outcome.{Outcome, refused, of_fell, Does, taken_of, Lasts, PutsIn, RemovesHere, RemovesEnd}
 use Rattle.outcome.specs.RemoveMirror as R
-use Rattle.outcome.specs.RemoveMirror.{Fell, flag, close_m, last_here, replaced_at, shrink_m, shrink_on, give_way}
-use Rattle.removal.specs.RemoveCode.{Is}
+use Rattle.outcome.specs.RemoveMirror.{Fell, bad, fine, low, flag, close_m, last_here, replaced_at, shrink_m, shrink_on, give_way}
+use Rattle.removal.specs.RemoveCode.{Missing, Read, Is}
 use Rattle.removal.proofs.RemoveCode.{short_all, front, front_length, as_plug, as_parts, fits, sep_is, removed_is, first_is, count_is, Closed, closes_plug, wrote_in}
-use Rattle.removal.proofs.RebalanceCode.{Read, Small, held_none, held_some, held_slot, held_is, there, by_mirror}
+use Rattle.removal.proofs.RebalanceCode.{Small, held_none, held_some, held_slot, held_is, there, by_mirror}
 
 -- ---- the root
 
-pub shrink_1 : (x d : ℕ) (s : List ℕ) {o : Outcome} → d ≡ 0 → o ≡ outcome_of Plain → Does (shrink_m x d s R.low) o s
-shrink_1 x d s {o = o} e h = subst (λ (d : ℕ). Does (shrink_m x d s R.low) o s) (sym e) (h, refl)
+pub shrink_1 : (x d : ℕ) (s : List ℕ) → d ≡ 0 → Does (shrink_m x d s R.low) (Ok Plain) s
+shrink_1 x d s e = subst (λ (d : ℕ). Does (shrink_m x d s R.low) (Ok Plain) s) (sym e) (refl, refl)
 
 -- above a leaf it is read
 shrink_above : (x d : ℕ) (s : List ℕ) → (d ≡ 0 → ⊥) → shrink_m x d s R.low ≡ shrink_on (d - 1) s x (read_node_at d s x)
@@ -51,27 +54,26 @@ give_none : (d : ℕ) (s : List ℕ) (x : ℕ) (r : List Step) (m : Node ℕ ℕ
 give_none d s x [] m h = refl
 give_none d s x (y ∷ r) m h = absurd (omega arith)
 
-module _ (x d : ℕ) (s : List ℕ) {f : Bool} {v : ℕ} {n : struct.Node} (above : d ≡ 0 → ⊥) (read : Read d s x f v n) where
-  pub shrink_2 : {o : Outcome} → not f ≡ true → o ≡ outcome_of Bad → Does (shrink_m x d s R.low) o s
-  shrink_2 h e = by_mirror (shrink_above x d s above ∙ ap (λ (m : Option (Node ℕ ℕ)). shrink_on (d - 1) s x m) (held_none d s x read h)) (e, refl)
+module _ (x d : ℕ) (s : List ℕ) (above : d ≡ 0 → ⊥) where
+  pub shrink_2 : Missing d s x → Does (shrink_m x d s R.low) refused s
+  shrink_2 gone = by_mirror (shrink_above x d s above ∙ ap (λ (m : Option (Node ℕ ℕ)). shrink_on (d - 1) s x m) (held_none d s x gone)) (refl, refl)
 
-  module _ (here : not f ≡ false) (small : Small s) where
+  module _ {v : ℕ} {n : struct.Node} (read : Read d s x v n) (small : Small s) where
     root_is : Is n (first_in s x) (rest_in s x)
-    root_is = held_is d s x read here (bytes_of s small)
+    root_is = held_is d s x read (bytes_of s small)
 
     root_some : shrink_m x d s R.low ≡ give_way (d - 1) s x (rest_in s x) (node_in s x)
-    root_some = shrink_above x d s above ∙ ap (λ (m : Option (Node ℕ ℕ)). shrink_on (d - 1) s x m) (held_some d s x read here)
+    root_some = shrink_above x d s above ∙ ap (λ (m : Option (Node ℕ ℕ)). shrink_on (d - 1) s x m) (held_some d s x read)
 
-    pub shrink_3 : {o : Outcome} → 0 < n.count → o ≡ outcome_of Plain → Does (shrink_m x d s R.low) o s
-    shrink_3 h e = by_mirror (root_some ∙ give_some (d - 1) s x (rest_in s x) (node_in s x) (omega (arith, count_is root_is))) (e, refl)
+    pub shrink_3 : 0 < n.count → Does (shrink_m x d s R.low) (Ok Plain) s
+    shrink_3 h = by_mirror (root_some ∙ give_some (d - 1) s x (rest_in s x) (node_in s x) (omega (arith, count_is root_is))) (refl, refl)
 
-    pub shrink_4 : {o : Outcome} {k : Child} {t u : List ℕ} → n.count ≤ 0 → k ≡ get_or n.children 0 (child_of 0) → t ≡ free_slot s v → u ≡ set_root t k.0 (d - 1)
-        → o ≡ outcome_of Plain → Does (shrink_m x d s R.low) o u
-    shrink_4 {k = k} {t = t} h kid t-is u-is e =
+    pub shrink_4 : {k : Child} {t u : List ℕ} → n.count ≤ 0 → k ≡ get_or n.children 0 (child_of 0) → t ≡ free_slot s v → u ≡ set_root t k.0 (d - 1) → Does (shrink_m x d s R.low) (Ok Plain) u
+    shrink_4 {k = k} {t = t} h kid t-is u-is =
         let c : k.0 ≡ first_in s x = ap (λ (k : Child). k.0) (kid ∙ first_is root_is) in
-        let a : t ≡ free_slot s x = t-is ∙ ap (free_slot s) (held_slot d s x read here) in
+        let a : t ≡ free_slot s x = t-is ∙ ap (free_slot s) (held_slot d s x read) in
         by_mirror (root_some ∙ give_none (d - 1) s x (rest_in s x) (node_in s x) (omega (arith, count_is root_is)))
-        (e, u-is ∙ ap (λ (y : ℕ). set_root t y (d - 1)) c ∙ ap (λ (y : List ℕ). set_root y (first_in s x) (d - 1)) a)
+        (refl, u-is ∙ ap (λ (y : ℕ). set_root t y (d - 1)) c ∙ ap (λ (y : List ℕ). set_root y (first_in s x) (d - 1)) a)
 
 -- ---- another separator
 
@@ -103,29 +105,29 @@ put_is {n = n} {c = c} {r = r} is i w h fit =
       };
     })
 
-module _ (d : ℕ) (s : List ℕ) (x i : ℕ) {f : Bool} {v : ℕ} {n : struct.Node} (sep : Separator) (read : Read d s x f v n) where
-  abbrev Puts : Bool → List ℕ → Type 0
+module _ (d : ℕ) (s : List ℕ) (x i : ℕ) (sep : Separator) where
+  abbrev Puts : Result ⊤ BadBytes → List ℕ → Type 0
   Puts b t = (w : Sep ℕ) → sep ≡ separator_of w → Fit w → PutsIn i w s (read_node_at d s x) b t
 
-  pub put_separator_1 : not f ≡ true → Puts false s
-  put_separator_1 h w e fit = subst (λ (m : Option (Node ℕ ℕ)). PutsIn i w s m false s) (sym (held_none d s x read h)) (refl, refl)
+  pub put_separator_1 : Missing d s x → Puts refused s
+  put_separator_1 gone w e fit = subst (λ (m : Option (Node ℕ ℕ)). PutsIn i w s m refused s) (sym (held_none d s x gone)) (refl, refl)
 
-  module _ (here : not f ≡ false) (small : Small s) where
-    put_some : {t : List ℕ} (w : Sep ℕ) → t ≡ write_node s (record { slot = x; first = first_in s x; rest = replaced_at i w (rest_in s x) }) → PutsIn i w s (read_node_at d s x) true t
-    put_some {t = t} w p = subst (λ (m : Option (Node ℕ ℕ)). PutsIn i w s m true t) (sym (held_some d s x read here)) (refl, p)
+  module _ {v : ℕ} {n : struct.Node} (read : Read d s x v n) (small : Small s) where
+    put_some : {t : List ℕ} (w : Sep ℕ) → t ≡ write_node s (record { slot = x; first = first_in s x; rest = replaced_at i w (rest_in s x) }) → PutsIn i w s (read_node_at d s x) (Ok tt) t
+    put_some {t = t} w p = subst (λ (m : Option (Node ℕ ℕ)). PutsIn i w s m (Ok tt) t) (sym (held_some d s x read)) (refl, p)
 
     node_is : Is n (first_in s x) (rest_in s x)
-    node_is = held_is d s x read here (bytes_of s small)
+    node_is = held_is d s x read (bytes_of s small)
 
-    pub put_separator_2 : {n' : struct.Node} {t : List ℕ} → i < n.count → n' ≡ with_separator n i sep → t ≡ written_in s v n' → Puts true t
+    pub put_separator_2 : {n' : struct.Node} {t : List ℕ} → i < n.count → n' ≡ with_separator n i sep → t ≡ written_in s v n' → Puts (Ok tt) t
     put_separator_2 h n-is t-is w e fit =
         let is = subst (λ (m : struct.Node). Is m (first_in s x) (replaced_at i w (rest_in s x))) (sym (n-is ∙ ap (with_separator n i) e)) (put_is node_is i w (omega (arith, count_is node_is)) fit) in
-        put_some w (wrote_in (first_in s x) (replaced_at i w (rest_in s x)) refl (held_slot d s x read here) is t-is)
+        put_some w (wrote_in (first_in s x) (replaced_at i w (rest_in s x)) refl (held_slot d s x read) is t-is)
 
-    pub put_separator_3 : {t : List ℕ} → n.count ≤ i → t ≡ written_in s v n → Puts true t
+    pub put_separator_3 : {t : List ℕ} → n.count ≤ i → t ≡ written_in s v n → Puts (Ok tt) t
     put_separator_3 h t-is w e fit =
         let is : Is n (first_in s x) (replaced_at i w (rest_in s x)) = subst (Is n (first_in s x)) (replaced_past i w (rest_in s x) (omega (arith, count_is node_is))) node_is in
-        put_some w (wrote_in (first_in s x) (replaced_at i w (rest_in s x)) refl (held_slot d s x read here) is t-is)
+        put_some w (wrote_in (first_in s x) (replaced_at i w (rest_in s x)) refl (held_slot d s x read) is t-is)
 
 -- ---- a leaf
 
@@ -152,41 +154,42 @@ nothing_there : (a : Node ℕ ℕ) → none ≡ some a → ⊥
 nothing_there a e = subst (λ (m : Option (Node ℕ ℕ)). IsNone m) e tt
 
 -- what came of it, with the separator
-with_separator_lem : {k : Outcome} {sep : Separator} (f : Fell) (e : Sep ℕ) → k ≡ of_fell f → sep ≡ separator_of e → ◌≡◌ {A = Outcome} (record { came = k.came; right = record { 0 = 0 }; separator = sep }) (outcome_with (came_of f) e 0)
-unfolding outcome_with
-with_separator_lem f e p q = λ i. record { came = (p i).came; right = record { 0 = 0 }; separator = q i }
+with_separator_lem : {k : code.Came} {sep : Separator} (f : Fell) (e : Sep ℕ) → Ok k ≡ of_fell f → sep ≡ separator_of e → Ok (record { came = k; separator = sep }) ≡ taken_of e f
+with_separator_lem bad e p q = absurd cc
+with_separator_lem fine e p q = cc
+with_separator_lem low e p q = cc
 
-module _ (s : List ℕ) (x : ℕ) {f : Bool} {v : ℕ} {n : struct.Node} (read : Read 0 s x f v n) where
-  module _ (gone : not f ≡ true) where
+module _ (s : List ℕ) (x : ℕ) where
+  module _ (gone : Missing 0 s x) where
     pub remove_here_1 : (i : ℕ) (o : Outcome) → RemovesHere s x i o s
     unfolding RemovesHere
-    remove_here_1 i o l c y q e h = absurd (nothing_there (plug x l c (y ∷ q)) (sym (held_none 0 s x read gone) ∙ e))
+    remove_here_1 i o l c y q e h = absurd (nothing_there (plug x l c (y ∷ q)) (sym (held_none 0 s x gone) ∙ e))
 
-    pub remove_end_1 : (o : Outcome) → RemovesEnd s x o s
+    pub remove_end_1 : (o : Result Taken BadBytes) → RemovesEnd s x o s
     unfolding RemovesEnd
-    remove_end_1 o m e = absurd (nothing_there m (sym (held_none 0 s x read gone) ∙ e))
+    remove_end_1 o m e = absurd (nothing_there m (sym (held_none 0 s x gone) ∙ e))
 
-  module _ (here : not f ≡ false) (small : Small s) where
+  module _ {v : ℕ} {n : struct.Node} (read : Read 0 s x v n) (small : Small s) where
     leaf_is : Is n (first_in s x) (rest_in s x)
-    leaf_is = held_is 0 s x read here (bytes_of s small)
+    leaf_is = held_is 0 s x read (bytes_of s small)
 
     -- the node that the mirror reads
     same_leaf : (m : Node ℕ ℕ) → read_node_at 0 s x ≡ some m → node_in s x ≡ m
-    same_leaf m e = same_node (node_in s x) m (sym (held_some 0 s x read here) ∙ e)
+    same_leaf m e = same_node (node_in s x) m (sym (held_some 0 s x read) ∙ e)
 
-    closed_here : (n' : struct.Node) {o : Outcome} {t : List ℕ} → Closed s v n' o t → Closed s x n' o t
-    closed_here n' {o = o} {t = t} = subst (λ (y : ℕ). Closed s y n' o t) (held_slot 0 s x read here)
+    closed_here : (n' : struct.Node) {o : code.Came} {t : List ℕ} → Closed s v n' o t → Closed s x n' o t
+    closed_here n' {o = o} {t = t} = subst (λ (y : ℕ). Closed s y n' o t) (held_slot 0 s x read)
 
-    pub remove_here_2 : (i : ℕ) {n' : struct.Node} {o : Outcome} {t : List ℕ} → n' ≡ removed_at n i → Closed s v n' o t → RemovesHere s x i o t
+    pub remove_here_2 : (i : ℕ) {n' : struct.Node} {o : code.Came} {t : List ℕ} → n' ≡ removed_at n i → Closed s v n' o t → RemovesHere s x i (Ok o) t
     unfolding RemovesHere
     remove_here_2 i {n' = n'} {o = o} {t = t} n-is done l c y q e h =
         let E : node_in s x ≡ plug x l c (y ∷ q) = same_leaf (plug x l c (y ∷ q)) e in
-        let kids = leaf_kids x l c (y ∷ q) (subst (λ (m : Node ℕ ℕ). chain_fits 0 m.first m.rest ≡ true) E (there 0 s x read here).fit) in
+        let kids = leaf_kids x l c (y ∷ q) (subst (λ (m : Node ℕ ℕ). chain_fits 0 m.first m.rest ≡ true) E (there 0 s x read).fit) in
         let zero-kids : c ≡ y.1 = no_child c kids.0 ∙ sym (no_child y.1 kids.1.0) in
         let is : Is n (plug x l c (y ∷ q)).first (plug x l c (y ∷ q)).rest = subst (λ (m : Node ℕ ℕ). Is n m.first m.rest) E leaf_is in
         let less = as_plug x l c (y ∷ q) q (removed_is (front x l c) y q (as_parts x l c (y ∷ q) is) (h ∙ sym (front_length x l c))) in
         let less' : Is n' (plug x l c q).first (plug x l c q).rest = subst (λ (m : struct.Node). Is m (plug x l c q).first (plug x l c q).rest) (sym n-is) less in
-        subst (λ (y : ℕ). Does (close_m s (plug x l y q)) o t) zero-kids (closes_plug s x l c q less' (closed_here n' done))
+        subst (λ (y : ℕ). Does (close_m s (plug x l y q)) (Ok o) t) zero-kids (closes_plug s x l c q less' (closed_here n' done))
 
     -- at the last child
     at_end : (m : Node ℕ ℕ) → read_node_at 0 s x ≡ some m → (P : List (ℕ × Sep ℕ) → List Step → Type 0)
@@ -198,25 +201,25 @@ module _ (s : List ℕ) (x : ℕ) {f : Bool} {v : ℕ} {n : struct.Node} (read :
         let nil : z.rgt ≡ [] = seek_always [] m.first m.rest in
         subst (P z.lft) (sym nil) (g z.lft z.mid (subst (λ (r : List Step). Is n (plug x z.lft z.mid r).first (plug x z.lft z.mid r).rest) nil all))
 
-    pub remove_end_2 : {o : Outcome} → n.count < 1 → o ≡ outcome_of Bad → RemovesEnd s x o s
+    pub remove_end_2 : n.count < 1 → RemovesEnd s x refused s
     unfolding RemovesEnd
-    remove_end_2 {o = o} h e m found = at_end m found (λ l r. Lasts (last_here s x l r) o s) go
+    remove_end_2 h m found = at_end m found (λ l r. Lasts (last_here s x l r) refused s) go
       where
-        go : (l : List (ℕ × Sep ℕ)) (c : ℕ) → Is n (plug x l c []).first (plug x l c []).rest → Lasts (last_here s x l []) o s
-        go [] c is = (e, refl)
+        go : (l : List (ℕ × Sep ℕ)) (c : ℕ) → Is n (plug x l c []).first (plug x l c []).rest → Lasts (last_here s x l []) refused s
+        go [] c is = (refl, refl)
         go (y ∷ l) c is = absurd (omega (arith, count_is is, plug_length x l y.0 ((y.1, c) ∷ [])))
 
-    pub remove_end_3 : {k : Outcome} {sep : Separator} {n' : struct.Node} {t : List ℕ} → 1 ≤ n.count → sep ≡ sep_at n (n.count - 1) → n' ≡ removed_at n (n.count - 1) → Closed s v n' k t
-        → RemovesEnd s x (record { came = k.came; right = record { 0 = 0 }; separator = sep }) t
+    pub remove_end_3 : {k : code.Came} {sep : Separator} {n' : struct.Node} {t : List ℕ} → 1 ≤ n.count → sep ≡ sep_at n (n.count - 1) → n' ≡ removed_at n (n.count - 1) → Closed s v n' k t
+        → RemovesEnd s x (Ok (record { came = k; separator = sep })) t
     unfolding RemovesEnd
-    remove_end_3 {k = k} {sep = sep} {n' = n'} {t = t} h sep_of_lem n-is done m found = at_end m found (λ l r. Lasts (last_here s x l r) (record { came = k.came; right = record { 0 = 0 }; separator = sep }) t) go
+    remove_end_3 {k = k} {sep = sep} {n' = n'} {t = t} h sep_of_lem n-is done m found = at_end m found (λ l r. Lasts (last_here s x l r) (Ok (record { came = k; separator = sep })) t) go
       where
-        go : (l : List (ℕ × Sep ℕ)) (c : ℕ) → Is n (plug x l c []).first (plug x l c []).rest → Lasts (last_here s x l []) (record { came = k.came; right = record { 0 = 0 }; separator = sep }) t
+        go : (l : List (ℕ × Sep ℕ)) (c : ℕ) → Is n (plug x l c []).first (plug x l c []).rest → Lasts (last_here s x l []) (Ok (record { came = k; separator = sep })) t
         go [] c is = absurd (omega (arith, count_is is))
         go (y ∷ l) c is =
             let p = as_parts x l y.0 ((y.1, c) ∷ []) is in
             let j : n.count - 1 ≡ length (front x l y.0) = omega (arith, count_is is, plug_length x l y.0 ((y.1, c) ∷ []), front_length x l y.0) in
             let less = as_plug x l y.0 ((y.1, c) ∷ []) [] (removed_is (front x l y.0) (y.1, c) [] p j) in
             let less' : Is n' (plug x l y.0 []).first (plug x l y.0 []).rest = subst (λ (m : struct.Node). Is m (plug x l y.0 []).first (plug x l y.0 []).rest) (sym n-is) less in
-            let w : Does (close_m s (plug x l y.0 [])) k t = closes_plug s x l y.0 [] less' (closed_here n' done) in
+            let w : Does (close_m s (plug x l y.0 [])) (Ok k) t = closes_plug s x l y.0 [] less' (closed_here n' done) in
             (with_separator_lem (flag (ltb (length (plug x l y.0 []).rest) 4)) y.1 w.0 (sep_of_lem ∙ sep_is (front x l y.0) (y.1, c) [] p j), w.1, (fits (front x l y.0) (y.1, c) [] p j).0)

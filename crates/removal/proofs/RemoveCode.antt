@@ -2,13 +2,12 @@
 -- Assumes nothing.
 use mathlib.Core.Path.{◌≡◌, refl, sym, ap, subst, ◌∙◌}
 use mathlib.Core.List.{List, [], ◌∷◌, ◌++◌, map, map-append, append_assoc, append-nil}
-use mathlib.Core.Bool.{Bool}
+use Rattle.std.specs.Prelude.{Ok}
 use Prim.Native.Nat.{ℕ, suc, ◌+◌, ◌-◌, ◌^◌, ◌≤◌, ◌<◌}
 use lib.ListN.{length, drop, get_or, length-append, length-map}
 use lib.Seq.{take_at, drop_at, get_or_at, take_all}
 use lib.Dec.{ltb}
 use native.Mathlib.Omega.{arith}
-use borrow.Author.Tests.{lt-ltb, le-ltb}
 use Rattle.tree.specs.Map.{Sep}
 use Rattle.tree.specs.Tree.{Node, plug}
 use Rattle.tree.specs.Remove.{unsnoc}
@@ -17,30 +16,21 @@ use Rattle.tree.proofs.Balance.{unsnoc_append, unsnoc_length}
 use Rattle.node.specs.declared.Node as struct
 use Rattle.node.specs.declared.Child.{Child}
 use Rattle.node.specs.declared.Separator.{Separator}
-use Rattle.codec.specs.declared.Reading.{Reading}
 use Rattle.node.specs.Chain.{Step, Fit, FitAll, child_of, node_of}
-use Rattle.codec.specs.Codec.{is_accepted}
 use Rattle.node.specs.Edit.{separator_of, inserted, removed, insert_at, remove_at, replace_at, kids, push_front, pop_front, joined, step_at}
 use Rattle.node.specs.EditMirror.{sep_at, with_separator, opened, inserted_at, closed, removed_at, joined_with}
 use Rattle.node.proofs.ChainLaws.{Short}
 use Rattle.node.proofs.ArrayLaws.{drop_past}
 use Rattle.node.proofs.EditLaws.{node_child, node_separator, node_set_separator, node_insert, node_push_front, node_remove, node_pop_front, node_join, fit_append}
 use Rattle.slots.specs.Mirror.{write_node, free_slot}
-use Rattle.slots.specs.Code.{written_in, reading_at, slot_of}
+use Rattle.slots.specs.Code.{written_in}
 use Rattle.slots.proofs.CodeLaws.{written_chain}
-use Rattle.outcome.specs.declared.Came.TheVariants.{Bad, Plain, Low}
-use Rattle.outcome.specs.declared.Outcome.{Outcome}
+use Rattle.outcome.specs.declared.Came as code
 use Rattle.removal.specs.declared.Held.{Held}
-use Rattle.outcome.specs.Outcome.{outcome_of, of_fell, Does}
+use Rattle.outcome.specs.Outcome.{Outcome, refused, of_fell, Does}
 use Rattle.outcome.specs.RemoveMirror.{flag, close_m, borrow_last_m, borrow_first_m}
 use Rattle.removal.specs.RemoveCode.{Is, Between, BorrowsLast, BorrowsFirst, Merges}
 use Rattle.outcome.proofs.ZipIndex.{plug_rest, plug_right}
-
--- ---- reading
-
-pub hold_1 : (s : List ℕ) (x d : ℕ) {m : ℕ} {g : Reading} {b : Bool} → g ≡ reading_at d s x → m ≡ slot_of s x → b ≡ is_accepted g.ending
-    → (b ≡ is_accepted (reading_at d s x).ending) × (m ≡ slot_of s x) × (g.node ≡ (reading_at d s x).node)
-hold_1 s x d e f h = (h ∙ ap (λ (r : Reading). is_accepted r.ending) e, f, ap (λ (r : Reading). r.node) e)
 
 -- ---- chains at a place: p stands left of it
 
@@ -155,24 +145,18 @@ count_is {c = c} {r = r} is = ap (λ (m : struct.Node). m.count) is.struct ∙ c
     counted_lem : (c : ℕ) (r : List Step) → (node_of c r).count ≡ length r
     counted_lem c r = unfold node_of in refl
 
-pub close_1 : {n : ℕ} {o : Outcome} {s t : List ℕ} → s ≡ t → n < 4 → o ≡ outcome_of Low → (o ≡ of_fell (flag (ltb n 4))) × (s ≡ t)
-close_1 {n = n} e h q = (q ∙ ap (λ (b : Bool). of_fell (flag b)) (sym (lt-ltb n 4 h)), e)
-
-pub close_2 : {n : ℕ} {o : Outcome} {s t : List ℕ} → s ≡ t → 4 ≤ n → o ≡ outcome_of Plain → (o ≡ of_fell (flag (ltb n 4))) × (s ≡ t)
-close_2 {n = n} e h q = (q ∙ ap (λ (b : Bool). of_fell (flag b)) (sym (le-ltb n 4 h)), e)
-
 -- what `close` answers and leaves
-abbrev pub Closed : List ℕ → ℕ → struct.Node → Outcome → List ℕ → Type 0
-Closed s x n o t = (o ≡ of_fell (flag (ltb n.count 4))) × (t ≡ written_in s x n)
+abbrev pub Closed : List ℕ → ℕ → struct.Node → code.Came → List ℕ → Type 0
+Closed s x n o t = (Ok o ≡ of_fell (flag (ltb n.count 4))) × (t ≡ written_in s x n)
 
-pub closes : {n : struct.Node} {o : Outcome} {t : List ℕ} (s : List ℕ) (x : ℕ) (c : ℕ) (r : List Step) → Is n c r → Closed s x n o t → Does (close_m s (record { slot = x; first = c; rest = r })) o t
+pub closes : {n : struct.Node} {o : code.Came} {t : List ℕ} (s : List ℕ) (x : ℕ) (c : ℕ) (r : List Step) → Is n c r → Closed s x n o t → Does (close_m s (record { slot = x; first = c; rest = r })) (Ok o) t
 closes s x c r is h = (h.0 ∙ ap (λ (k : ℕ). of_fell (flag (ltb k 4))) (count_is is), wrote s x c r is h.1)
 
 -- the node made from a zipper
-pub closes_plug : {n : struct.Node} {o : Outcome} {t : List ℕ} (s : List ℕ) (x : ℕ) (l : List (ℕ × Sep ℕ)) (a : ℕ) (r : List Step)
-    → Is n (plug x l a r).first (plug x l a r).rest → Closed s x n o t → Does (close_m s (plug x l a r)) o t
+pub closes_plug : {n : struct.Node} {o : code.Came} {t : List ℕ} (s : List ℕ) (x : ℕ) (l : List (ℕ × Sep ℕ)) (a : ℕ) (r : List Step)
+    → Is n (plug x l a r).first (plug x l a r).rest → Closed s x n o t → Does (close_m s (plug x l a r)) (Ok o) t
 closes_plug {o = o} {t = t} s x l a r is h =
-    subst (λ (y : ℕ). Does (close_m s (record { slot = y; first = (plug x l a r).first; rest = (plug x l a r).rest })) o t) (sym (plug_slot x l a r)) (closes s x (plug x l a r).first (plug x l a r).rest is h)
+    subst (λ (y : ℕ). Does (close_m s (record { slot = y; first = (plug x l a r).first; rest = (plug x l a r).rest })) (Ok o) t) (sym (plug_slot x l a r)) (closes s x (plug x l a r).first (plug x l a r).rest is h)
 
 -- an answer after stores that are the mirror's
 module _ {o : Outcome} {t : List ℕ} (m : Node ℕ ℕ) where
@@ -253,26 +237,33 @@ module _ (s : List ℕ) (over left right : Held) (i : ℕ) where
     gone_is : Is (removed_at over.node i) (plug over.slot.0 l a q).first (plug over.slot.0 l a q).rest
     gone_is = as_plug over.slot.0 l a ((y, b) ∷ q) q (removed_is (front over.slot.0 l a) (y, b) q parts index_lem)
 
-  pub borrow_left_1 : {o : Outcome} → left.node.count < 1 → o ≡ outcome_of Bad → BorrowsLast s over i left right o s
+    -- a sibling's separator w goes up, after both siblings are written
+    lent : {o : code.Came} {moved : Separator} {o' : struct.Node} {u v t : List ℕ} (w : Sep ℕ) → Fit w → moved ≡ separator_of w → o' ≡ with_separator over.node i moved
+        → u ≡ t → Closed u over.slot.0 o' o v → Does (close_m t (plug over.slot.0 l a ((w, b) ∷ q))) (Ok o) v
+    lent w f m o_is e done =
+        let O = subst (λ (g : struct.Node). Is g (plug over.slot.0 l a ((w, b) ∷ q)).first (plug over.slot.0 l a ((w, b) ∷ q)).rest) (sym (o_is ∙ ap (with_separator over.node i) m)) (up_is w f) in
+        after_lem (plug over.slot.0 l a ((w, b) ∷ q)) e (closes_plug _ over.slot.0 l a ((w, b) ∷ q) O done)
+
+  pub borrow_left_1 : left.node.count < 1 → BorrowsLast s over i left right refused s
   unfolding BorrowsLast
-  borrow_left_1 {o = o} h e l a y c q at ha hc k = nothing a.rest (omega (arith, count_is ha.1))
+  borrow_left_1 h l a y c q at ha hc k = nothing a.rest (omega (arith, count_is ha.1))
     where
-      nothing : (r : List Step) → length r < 1 → Does (borrow_last_m s over.slot.0 l a r y c q) o s
-      nothing [] h = (e, refl)
+      nothing : (r : List Step) → length r < 1 → Does (borrow_last_m s over.slot.0 l a r y c q) refused s
+      nothing [] h = (refl, refl)
       nothing (z ∷ r) h = absurd (omega arith)
 
-  pub borrow_left_2 : {o : Outcome} {moved down : Separator} {child : Child} {a' c' o' : struct.Node} {t u v : List ℕ}
+  pub borrow_left_2 : {o : code.Came} {moved down : Separator} {child : Child} {a' c' o' : struct.Node} {t u v : List ℕ}
       → 1 ≤ left.node.count → moved ≡ sep_at left.node (left.node.count - 1) → child ≡ get_or left.node.children left.node.count (child_of 0)
       → down ≡ sep_at over.node i → a' ≡ removed_at left.node (left.node.count - 1) → t ≡ written_in s left.slot.0 a'
       → c' ≡ opened right.node 0 0 down child → u ≡ written_in t right.slot.0 c'
-      → o' ≡ with_separator over.node i moved → Closed u over.slot.0 o' o v → BorrowsLast s over i left right o v
+      → o' ≡ with_separator over.node i moved → Closed u over.slot.0 o' o v → BorrowsLast s over i left right (Ok o) v
   unfolding BorrowsLast
   borrow_left_2 {o = o} {child = child} {a' = a'} {c' = c'} {o' = o'} {v = v} some m-is k-is d-is a-is t-is c-is u-is o_is done l a y c q at ha hc room =
-      lent a.rest ha.1 (omega (arith, count_is ha.1))
+      some_there a.rest ha.1 (omega (arith, count_is ha.1))
     where
-      lent : (r : List Step) → Is left.node a.first r → 1 ≤ length r → Does (borrow_last_m s over.slot.0 l a r y c q) o v
-      lent [] is h = absurd (omega arith)
-      lent (z ∷ zs) is h =
+      some_there : (r : List Step) → Is left.node a.first r → 1 ≤ length r → Does (borrow_last_m s over.slot.0 l a r y c q) (Ok o) v
+      some_there [] is h = absurd (omega arith)
+      some_there (z ∷ zs) is h =
           let p : List Step = (unsnoc z zs).0 in
           let w : Step = (unsnoc z zs).1 in
           let is2 : Is left.node a.first (p ++ (w ∷ [])) = subst (Is left.node a.first) (sym (unsnoc_append z zs)) is in
@@ -284,44 +275,38 @@ module _ (s : List ℕ) (over left right : Held) (i : ℕ) where
           let d : ◌≡◌ {A = Separator} _ (separator_of y) = d-is ∙ down_is l a.slot y c.slot q at in
           let A : Is a' a.first p = subst (λ (g : struct.Node). Is g a.first p) (sym a-is) (subst (Is (removed_at left.node (left.node.count - 1)) a.first) (append-nil p) (removed_is p w [] is2 j)) in
           let C : Is c' w.1 ((y, c.first) ∷ c.rest) = subst (λ (g : struct.Node). Is g w.1 ((y, c.first) ∷ c.rest)) (sym (c-is ∙ ap (λ (g : Separator). opened right.node 0 0 g child) d ∙ ap (opened right.node 0 0 (separator_of y)) k)) (push_is hc.1 w.1 y room up.1 (down_fits l a.slot y c.slot q at)) in
-          let O = subst (λ (g : struct.Node). Is g (plug over.slot.0 l a.slot ((w.0, c.slot) ∷ q)).first (plug over.slot.0 l a.slot ((w.0, c.slot) ∷ q)).rest) (sym (o_is ∙ ap (with_separator over.node i) m)) (up_is l a.slot y c.slot q at w.0 up.0) in
-          after_lem (plug over.slot.0 l a.slot ((w.0, c.slot) ∷ q))
-          (wrote_in w.1 ((y, c.first) ∷ c.rest) (wrote_in a.first p refl ha.0 A t-is) hc.0 C u-is)
-          (closes_plug _ over.slot.0 l a.slot ((w.0, c.slot) ∷ q) O done)
+          lent l a.slot y c.slot q at w.0 up.0 m o_is (wrote_in w.1 ((y, c.first) ∷ c.rest) (wrote_in a.first p refl ha.0 A t-is) hc.0 C u-is) done
 
-  pub borrow_right_1 : {o : Outcome} → right.node.count < 1 → o ≡ outcome_of Bad → BorrowsFirst s over i left right o s
+  pub borrow_right_1 : right.node.count < 1 → BorrowsFirst s over i left right refused s
   unfolding BorrowsFirst
-  borrow_right_1 {o = o} h e l c y b q at hc hb k = nothing b.rest (omega (arith, count_is hb.1))
+  borrow_right_1 h l c y b q at hc hb k = nothing b.rest (omega (arith, count_is hb.1))
     where
-      nothing : (r : List Step) → length r < 1 → Does (borrow_first_m s over.slot.0 l c y b r q) o s
-      nothing [] h = (e, refl)
+      nothing : (r : List Step) → length r < 1 → Does (borrow_first_m s over.slot.0 l c y b r q) refused s
+      nothing [] h = (refl, refl)
       nothing (z ∷ r) h = absurd (omega arith)
 
-  pub borrow_right_2 : {o : Outcome} {moved down : Separator} {child : Child} {c' b' o' : struct.Node} {t u v : List ℕ}
+  pub borrow_right_2 : {o : code.Came} {moved down : Separator} {child : Child} {c' b' o' : struct.Node} {t u v : List ℕ}
       → 1 ≤ right.node.count → moved ≡ sep_at right.node 0 → child ≡ get_or right.node.children 0 (child_of 0)
       → down ≡ sep_at over.node i → c' ≡ inserted_at left.node left.node.count down child → t ≡ written_in s left.slot.0 c'
       → b' ≡ closed right.node 0 0 → u ≡ written_in t right.slot.0 b'
-      → o' ≡ with_separator over.node i moved → Closed u over.slot.0 o' o v → BorrowsFirst s over i left right o v
+      → o' ≡ with_separator over.node i moved → Closed u over.slot.0 o' o v → BorrowsFirst s over i left right (Ok o) v
   unfolding BorrowsFirst
   borrow_right_2 {o = o} {child = child} {c' = c'} {b' = b'} {o' = o'} {v = v} some m-is k-is d-is c-is t-is b-is u-is o_is done l c y b q at hc hb room =
-      lent b.rest hb.1 (omega (arith, count_is hb.1))
+      some_there b.rest hb.1 (omega (arith, count_is hb.1))
     where
-      lent : (r : List Step) → Is right.node b.first r → 1 ≤ length r → Does (borrow_first_m s over.slot.0 l c y b r q) o v
-      lent [] is h = absurd (omega arith)
-      lent (z ∷ zs) is h =
+      some_there : (r : List Step) → Is right.node b.first r → 1 ≤ length r → Does (borrow_first_m s over.slot.0 l c y b r q) (Ok o) v
+      some_there [] is h = absurd (omega arith)
+      some_there (z ∷ zs) is h =
           let m : ◌≡◌ {A = Separator} _ (separator_of z.0) = m-is ∙ sep_is [] z zs is refl in
           let k : ◌≡◌ {A = Child} _ (child_of b.first) = k-is ∙ first_is is in
           let d : ◌≡◌ {A = Separator} _ (separator_of y) = d-is ∙ down_is l c.slot y b.slot q at in
           let C : Is c' c.first (c.rest ++ ((y, b.first) ∷ [])) = subst (λ (g : struct.Node). Is g c.first (c.rest ++ ((y, b.first) ∷ []))) (sym (c-is ∙ ap (λ (g : Separator). inserted_at left.node left.node.count g child) d ∙ ap (inserted_at left.node left.node.count (separator_of y)) k)) (end_is hc.1 b.first y room is.fine.first (down_fits l c.slot y b.slot q at)) in
           let B : Is b' z.1 zs = subst (λ (g : struct.Node). Is g z.1 zs) (sym b-is) (pop_is is) in
-          let O = subst (λ (g : struct.Node). Is g (plug over.slot.0 l c.slot ((z.0, b.slot) ∷ q)).first (plug over.slot.0 l c.slot ((z.0, b.slot) ∷ q)).rest) (sym (o_is ∙ ap (with_separator over.node i) m)) (up_is l c.slot y b.slot q at z.0 is.fine.rest.0) in
-          after_lem (plug over.slot.0 l c.slot ((z.0, b.slot) ∷ q))
-          (wrote_in z.1 zs (wrote_in c.first (c.rest ++ ((y, b.first) ∷ [])) refl hc.0 C t-is) hb.0 B u-is)
-          (closes_plug _ over.slot.0 l c.slot ((z.0, b.slot) ∷ q) O done)
+          lent l c.slot y b.slot q at z.0 is.fine.rest.0 m o_is (wrote_in z.1 zs (wrote_in c.first (c.rest ++ ((y, b.first) ∷ [])) refl hc.0 C t-is) hb.0 B u-is) done
 
-  pub merge_1 : {o : Outcome} {down : Separator} {j o' : struct.Node} {t u v : List ℕ}
+  pub merge_1 : {o : code.Came} {down : Separator} {j o' : struct.Node} {t u v : List ℕ}
       → down ≡ sep_at over.node i → t ≡ free_slot s right.slot.0 → j ≡ joined_with left.node down right.node → u ≡ written_in t left.slot.0 j
-      → o' ≡ removed_at over.node i → Closed u over.slot.0 o' o v → Merges s over i left right o v
+      → o' ≡ removed_at over.node i → Closed u over.slot.0 o' o v → Merges s over i left right (Ok o) v
   unfolding Merges
   merge_1 {j = j} d-is t-is j-is u-is o_is done l a y b q at ha hb room =
       let d : ◌≡◌ {A = Separator} _ (separator_of y) = d-is ∙ down_is l a.slot y b.slot q at in

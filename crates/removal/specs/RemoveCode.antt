@@ -1,15 +1,29 @@
 -- What the functions of a removal do, where the structs that they are given are those of chains. Assumes nothing.
-use Rattle.std.specs.Prelude.{◌≡◌, List, ◌∷◌, ℕ, ◌+◌, ◌≤◌, length}
+use Rattle.std.specs.Prelude.{◌≡◌, List, ◌∷◌, true, false, ℕ, ◌+◌, ◌≤◌, length, Result, Ok, Err}
 use Rattle.std.proofs.Math.Option.{some}
 use Rattle.tree.specs.Map.{Sep}
 use Rattle.tree.specs.Tree.{Node, plug}
 use Rattle.node.specs.declared.Node as struct
 use Rattle.node.specs.Chain.{Step, Writable, node_of}
-use Rattle.outcome.specs.declared.Outcome.{Outcome}
+use Rattle.outcome.specs.declared.BadBytes.{BadBytes}
 use Rattle.removal.specs.declared.Held.{Held}
-use Rattle.slots.specs.Code.{read_node_at}
-use Rattle.outcome.specs.Outcome.{Does}
+use Rattle.codec.specs.Codec.{is_accepted}
+use Rattle.slots.specs.Code.{reading_at, slot_of, read_node_at}
+use Rattle.outcome.specs.Outcome.{Outcome, Does}
 use Rattle.outcome.specs.RemoveMirror.{borrow_last_m, borrow_first_m, merge_m, with_right, with_left}
+
+-- no node of depth d is in slot x
+abbrev pub Missing : ℕ → List ℕ → ℕ → Type 0
+Missing d s x = is_accepted (reading_at d s x).ending ≡ false
+
+-- one is: n, in slot v
+abbrev pub Read : ℕ → List ℕ → ℕ → ℕ → struct.Node → Type 0
+Read d s x v n = (is_accepted (reading_at d s x).ending ≡ true) × (v ≡ slot_of s x) × (n ≡ (reading_at d s x).node)
+
+-- which of the two `hold` answers
+abbrev pub Reads : ℕ → List ℕ → ℕ → Result Held BadBytes → Type 0
+Reads d s x (Ok h) = Read d s x h.slot.0 h.node
+Reads d s x (Err e) = Missing d s x
 
 -- the struct of a chain that can be written
 pub record Is (n : struct.Node) (c : ℕ) (r : List Step) : Type 0 where

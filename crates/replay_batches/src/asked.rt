@@ -12,10 +12,11 @@
 ghost use Rattle.lists.specs.Within.{Within};
 
 use crate::counts::{Count, Section};
-use iter::{Cursor, LookedUp, Place, Step};
+use iter::{Cursor, Place, Stepped, WalkError};
 use lists::Span;
+use node::Value;
 
-// Whether the answer was the list's, and the cursor after it.
+// Whether the answer was the list's, and the cursor after it, which there is either way: no Result.
 #[derive(Clone, Copy)]
 struct Outcome {
     agreed: bool,
@@ -66,87 +67,64 @@ pub fn at_start() -> Cursor {
     put(Place::Start)
 }
 
-// 0 Start, 1 End, 2 At, 3 Seeked.
-fn kind_of(place: &Place) -> usize {
-    match place {
-        Place::Start => 0,
-        Place::End => 1,
-        Place::At(_) => 2,
-        Place::Seeked(_) => 3,
-    }
-}
-
-fn length_of(place: &Place) -> usize {
-    match place {
-        Place::Start => 0,
-        Place::End => 0,
-        Place::At(len) => *len,
-        Place::Seeked(len) => *len,
-    }
-}
-
-// Whether the cursor is at such a place with this key and zeros behind it.
-fn is_at(cursor: &Cursor, kind: usize, key: &[u8]) -> bool {
+// Whether the cursor is at this place with this key and zeros behind it.
+fn is_at(cursor: &Cursor, place: Place, key: &[u8]) -> bool {
     let span = lists::place(&cursor.key, 0, key.len());
-    if kind_of(&cursor.place) != kind {
-        return false;
-    }
-    if length_of(&cursor.place) != key.len() {
-        return false;
-    }
-    &cursor.key[span.start..span.end] == key && lists::filled(&cursor.key, span.end, 0)
+    cursor.place == place
+        && &cursor.key[span.start..span.end] == key
+        && lists::filled(&cursor.key, span.end, 0)
 }
 
 // ---- steps
 
-// A number that no entry has stands for a refusal.
-fn value_of(step: Step) -> u64 {
-    match step {
-        Step::Entry(value) => value.0,
-        Step::Nothing => 0,
-        Step::NotStore => 0xFFFFFFFFFFFFFFFF,
-        Step::LongKey => 0xFFFFFFFFFFFFFFFF,
-        Step::Bad => 0xFFFFFFFFFFFFFFFF,
+// Whether a lookup or a step answers this value, where 0 stands for none.
+fn says(answer: Result<Option<Value>, WalkError>, value: u64) -> bool {
+    match answer {
+        Ok(Some(found)) => found.0 == value,
+        Ok(None) => value == 0,
+        Err(_) => false,
     }
 }
 
-// Whether a step came to this entry, or with the value 0 to the end of this kind.
-fn came(step: Step, cursor: &Cursor, key: &[u8], value: u64, end: usize) -> bool {
-    if step.number() != 0 {
-        return false;
-    }
-    if value_of(step) != value {
+// Whether a step came to this entry, or with the value 0 to this end.
+fn came(
+    step: Result<Option<Value>, WalkError>,
+    cursor: &Cursor,
+    key: &[u8],
+    value: u64,
+    end: Place,
+) -> bool {
+    if !says(step, value) {
         return false;
     }
     if value == 0 {
         return is_at(cursor, end, b"");
     }
-    is_at(cursor, 2, key)
+    is_at(cursor, Place::At(key.len()), key)
+}
+
+// A step that with no entry comes to `end`.
+fn step(stepped: Stepped, key: &[u8], value: u64, end: Place) -> Outcome {
+    let cursor = stepped.cursor;
+    Outcome {
+        agreed: came(stepped.step, &cursor, key, value, end),
+        cursor,
+    }
 }
 
 fn forward(store: &[u8], cursor: Cursor, key: &[u8], value: u64) -> Outcome {
-    let stepped = cikolaro::forward(store, cursor);
-    let cursor = stepped.cursor;
-    Outcome {
-        agreed: came(stepped.step, &cursor, key, value, 1),
-        cursor,
-    }
+    step(cikolaro::forward(store, cursor), key, value, Place::End)
 }
 
 fn backward(store: &[u8], cursor: Cursor, key: &[u8], value: u64) -> Outcome {
-    let stepped = cikolaro::backward(store, cursor);
-    let cursor = stepped.cursor;
-    Outcome {
-        agreed: came(stepped.step, &cursor, key, value, 0),
-        cursor,
-    }
+    step(cikolaro::backward(store, cursor), key, value, Place::Start)
 }
 
 fn seek(key: &[u8]) -> Outcome {
     let sought = cikolaro::seek(key);
     let cursor = sought.cursor;
     Outcome {
-        agreed: sought.accepted && is_at(&cursor, 3, key),
+        agreed: sought.accepted && is_at(&cursor, Place::Seeked(key.len()), key),
         cursor,
     }
 }
@@ -218,21 +196,6 @@ pub fn entries(store: &[u8], block: &[u8], from: usize) -> Section {
 
 // ---- the lookups
 
-fn found(looked_up: LookedUp) -> u64 {
-    match looked_up {
-        LookedUp::Found(value) => value.0,
-        LookedUp::Absent => 0,
-        LookedUp::NotStore => 0xFFFFFFFFFFFFFFFF,
-        LookedUp::LongKey => 0xFFFFFFFFFFFFFFFF,
-        LookedUp::Bad => 0xFFFFFFFFFFFFFFFF,
-    }
-}
-
-fn look_up(store: &[u8], key: &[u8], value: u64) -> bool {
-    let looked_up = cikolaro::lookup(store, key);
-    looked_up.number() == 0 && found(looked_up) == value
-}
-
 pub fn lookups(store: &[u8], block: &[u8], from: usize) -> Section {
     let n = lists::number(block, from, 2) as usize;
     let mut at = lists::place(block, from, 2).end;
@@ -240,7 +203,7 @@ pub fn lookups(store: &[u8], block: &[u8], from: usize) -> Section {
     for _ in 0..n {
         let key = lists::part(block, at);
         let value = lists::number(block, key.end, 8);
-        count = count.with(look_up(store, bytes(block, key), value));
+        count = count.with(says(cikolaro::lookup(store, bytes(block, key)), value));
         at = lists::place(block, key.end, 8).end;
     }
     Section { count, end: at }
@@ -248,49 +211,61 @@ pub fn lookups(store: &[u8], block: &[u8], from: usize) -> Section {
 
 // ---- the walk
 
-// How many bytes stand in front of a step's key.
-fn head_of(kind: usize) -> usize {
-    if 2 < kind { 2 } else { 1 }
+// A step, as its first bytes have it: `found` where an entry follows.
+#[derive(Clone, Copy)]
+enum Asked {
+    Put(Place),
+    Seek,
+    Forward { found: bool },
+    Backward { found: bool },
 }
 
-// How many bytes a step's value has.
-fn width_of(kind: usize, was_found: usize) -> usize {
-    if 2 < kind && was_found == 1 { 8 } else { 0 }
+fn asked_by(kind: usize, found: bool) -> Asked {
+    match kind {
+        0 => Asked::Put(Place::Start),
+        1 => Asked::Put(Place::End),
+        2 => Asked::Seek,
+        3 => Asked::Forward { found },
+        _ => Asked::Backward { found },
+    }
+}
+
+// How many bytes stand in front of a step's key.
+fn head_of(asked: Asked) -> usize {
+    match asked {
+        Asked::Put(_) | Asked::Seek => 1,
+        Asked::Forward { .. } | Asked::Backward { .. } => 2,
+    }
+}
+
+// Whether the key and the value of an entry follow.
+fn has_entry(asked: Asked) -> bool {
+    match asked {
+        Asked::Put(_) | Asked::Seek => false,
+        Asked::Forward { found } | Asked::Backward { found } => found,
+    }
 }
 
 // The key of a step, behind its first bytes; an empty one where the step has none.
-fn key_of(block: &[u8], at: usize, kind: usize, was_found: usize) -> Span
+fn key_of(block: &[u8], at: usize, asked: Asked) -> Span
     ensures { Within block.now result }
 {
-    if kind == 2 {
-        return lists::part(block, at);
-    }
-    if 2 < kind && was_found == 1 {
+    if has_entry(asked) || matches!(asked, Asked::Seek) {
         return lists::part(block, at);
     }
     lists::place(block, at, 0)
 }
 
-fn answer(store: &[u8], cursor: Cursor, kind: usize, key: &[u8], value: u64) -> Outcome {
-    if kind == 0 {
-        return Outcome {
+fn answer(store: &[u8], cursor: Cursor, asked: Asked, key: &[u8], value: u64) -> Outcome {
+    match asked {
+        Asked::Put(place) => Outcome {
             agreed: true,
-            cursor: put(Place::Start),
-        };
+            cursor: put(place),
+        },
+        Asked::Seek => seek(key),
+        Asked::Forward { .. } => forward(store, cursor, key, value),
+        Asked::Backward { .. } => backward(store, cursor, key, value),
     }
-    if kind == 1 {
-        return Outcome {
-            agreed: true,
-            cursor: put(Place::End),
-        };
-    }
-    if kind == 2 {
-        return seek(key);
-    }
-    if kind == 3 {
-        return forward(store, cursor, key, value);
-    }
-    backward(store, cursor, key, value)
 }
 
 fn start_walk(block: &[u8], from: usize, cursor: Cursor) -> Walked {
@@ -303,14 +278,13 @@ fn start_walk(block: &[u8], from: usize, cursor: Cursor) -> Walked {
 
 fn next_step(store: &[u8], block: &[u8], before: Walked) -> Walked {
     let at = before.at;
-    let kind = lists::byte(block, at);
     let second = lists::place(block, at, 1).end;
-    let was_found = lists::byte(block, second);
-    let head = lists::place(block, at, head_of(kind)).end;
-    let width = width_of(kind, was_found);
-    let key = key_of(block, head, kind, was_found);
+    let asked = asked_by(lists::byte(block, at), lists::byte(block, second) == 1);
+    let head = lists::place(block, at, head_of(asked)).end;
+    let width = if has_entry(asked) { 8 } else { 0 };
+    let key = key_of(block, head, asked);
     let value = lists::number(block, key.end, width);
-    let outcome = answer(store, before.cursor, kind, bytes(block, key), value);
+    let outcome = answer(store, before.cursor, asked, bytes(block, key), value);
     Walked {
         at: lists::place(block, key.end, width).end,
         count: before.count.with(outcome.agreed),

@@ -14,7 +14,8 @@ pub struct Section {
     pub end: usize,
 }
 
-// A batch: whether it answered as the list has it and whether it answered 9; what the store held, and what it was asked.
+// A batch: whether it answered as the list has it and whether it answered 9; what the store held, and what it was asked. Two facts
+// that are counted beside the others, whichever they are: no Result.
 #[derive(Clone, Copy)]
 pub struct Batch {
     pub agreed: bool,

@@ -28,7 +28,7 @@ struct Replayed {
     cursor: Cursor,
 }
 
-// A history so far: whether all of it agreed, the totals, and its cursor.
+// A history so far: whether all of it agreed, and, either way, the totals and its cursor: no Result.
 #[derive(Clone, Copy)]
 struct History {
     agreed: bool,
@@ -36,7 +36,7 @@ struct History {
     cursor: Cursor,
 }
 
-// Whether a batch answered as the list has it, with which number, and where the block goes on.
+// Whether a batch answered as the list has it; and, either way, with which number, and where the block goes on: no Result.
 #[derive(Clone, Copy)]
 struct Answered {
     agreed: bool,
@@ -49,7 +49,7 @@ fn run(store: &mut [u8], block: &[u8]) -> Answered {
     let records = lists::part(block, 0);
     let end = records.end;
     let batched = cikolaro::batch(store, &mut marks, &block[records.start..end]);
-    let number = batched.answer.number();
+    let number = refusal::number(batched.answer);
     let said = lists::byte(block, end);
     let applied = lists::number(block, end + 1, 2);
     Answered {
@@ -109,7 +109,7 @@ fn name<W: Write>(out: &mut W, before: Totals, batch: usize, whole: bool) -> io:
 fn begin(store: &mut [u8], slots: u32, totals: Totals) -> History {
     let formatted = cikolaro::format(store, slots);
     History {
-        agreed: formatted.number() == 0,
+        agreed: formatted.is_ok(),
         totals,
         cursor: asked::at_start(),
     }

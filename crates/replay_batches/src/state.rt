@@ -29,21 +29,18 @@ fn stands(s: &[u8], at: usize, part: &[u8]) -> bool {
 }
 
 fn is_used(slot: &[u8], node: &[u8]) -> bool {
-    if slot.len() != SLOT {
-        return false;
-    }
-    if lists::number(slot, 0, 4) != node.len() as u64 {
-        return false;
-    }
     let behind = lists::place(slot, 4, node.len()).end;
-    stands(slot, 4, node) && lists::filled(slot, behind, 0)
+    slot.len() == SLOT
+        && lists::number(slot, 0, 4) == node.len() as u64
+        && stands(slot, 4, node)
+        && lists::filled(slot, behind, 0)
 }
 
 fn is_free(slot: &[u8], next: u64) -> bool {
-    if slot.len() != SLOT {
-        return false;
-    }
-    lists::number(slot, 0, 4) == 0 && lists::number(slot, 4, 4) == next && lists::filled(slot, 8, 0)
+    slot.len() == SLOT
+        && lists::number(slot, 0, 4) == 0
+        && lists::number(slot, 4, 4) == next
+        && lists::filled(slot, 8, 0)
 }
 
 // Whether the slot is as the block has it; where the block goes on behind it is the section's end.
@@ -59,7 +56,7 @@ fn same_slot(slot: &[u8], block: &[u8], at: usize, count: Count) -> Section {
     }
     Section {
         count: count.with(is_used(slot, &block[start..end])),
-        end: end,
+        end,
     }
 }
 

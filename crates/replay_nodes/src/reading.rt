@@ -96,44 +96,33 @@ fn key(bytes: &[u8], told: &[u8], i: usize) -> Span
 }
 
 fn same_children(children: &[Child; 9], told: &[u8]) -> bool {
-    for i in 0..9 {
-        if children[i].0 != child(told, i) {
-            return false;
-        }
-    }
-    true
+    children
+        .iter()
+        .enumerate()
+        .all(|(i, given)| given.0 == child(told, i))
 }
 
 fn same_separators(values: &[Value; 8], lens: &[usize; 8], told: &[u8]) -> bool {
-    for i in 0..8 {
-        if values[i].0 != field(told, i, 0, 8) {
-            return false;
-        }
-        if lens[i] as u64 != field(told, i, 10, 2) {
-            return false;
-        }
-    }
-    true
+    values
+        .iter()
+        .enumerate()
+        .all(|(i, value)| value.0 == field(told, i, 0, 8))
+        && lens
+            .iter()
+            .enumerate()
+            .all(|(i, len)| *len as u64 == field(told, i, 10, 2))
 }
 
 // Whether a place for a key holds this one and zeros behind it.
 fn holds(place: &[u8], key: &[u8]) -> bool {
-    let len = key.len();
-    if place.len() < len {
-        return false;
-    }
-    if &place[..len] != key {
-        return false;
-    }
-    lists::filled(place, len, 0)
+    place.starts_with(key) && lists::filled(place, key.len(), 0)
 }
 
 // The keys in the node's own array.
 fn same_keys(keys: &[u8; 2304], bytes: &[u8], told: &[u8]) -> bool {
-    for i in 0..8 {
-        let from = 288 * i;
+    for (i, place) in keys.chunks_exact(288).enumerate() {
         let span = key(bytes, told, i);
-        if !holds(&keys[from..from + 288], &bytes[span.start..span.end]) {
+        if !holds(place, &bytes[span.start..span.end]) {
             return false;
         }
     }
@@ -159,27 +148,17 @@ fn same_parts(bytes: &[u8], told: &[u8], rule: Rule) -> bool {
 }
 
 fn same_node(node: &Node, bytes: &[u8], told: &[u8]) -> bool {
-    if node.count != separators(told) {
-        return false;
-    }
-    if !same_children(&node.children, told) {
-        return false;
-    }
-    if !same_separators(&node.values, &node.lens, told) {
-        return false;
-    }
-    same_keys(&node.keys, bytes, told)
+    node.count == separators(told)
+        && same_children(&node.children, told)
+        && same_separators(&node.values, &node.lens, told)
+        && same_keys(&node.keys, bytes, told)
 }
 
 // What both readings answer: the number, the node, and the keys one by one.
 fn same_answer(number: u32, node: &Node, bytes: &[u8], told: &[u8], rule: Rule) -> bool {
-    if number as usize != lists::byte(told, 0) {
-        return false;
-    }
-    if !same_node(node, bytes, told) {
-        return false;
-    }
-    same_parts(bytes, told, rule)
+    number as usize == lists::byte(told, 0)
+        && same_node(node, bytes, told)
+        && same_parts(bytes, told, rule)
 }
 
 fn check_lenient(bytes: &[u8], told: &[u8]) -> Verdict {

@@ -7,7 +7,7 @@
 //     part     the node in standard form
 ghost use Rattle.std.specs.Prelude.{◌≤◌, length};
 
-use codec::Written;
+use codec::WriteError;
 use node::{Child, Node, Value};
 
 // What stands in a destination before a writing.
@@ -31,8 +31,8 @@ fn small(block: &[u8], at: usize, most: usize) -> usize
 fn children(block: &[u8]) -> [Child; 9] {
     let count = small(block, 1, 9);
     let mut children = [Child(0); 9];
-    for i in 0..count {
-        children[i] = Child(lists::number(block, 2 + 8 * i, 8));
+    for (i, child) in children.iter_mut().take(count).enumerate() {
+        *child = Child(lists::number(block, 2 + 8 * i, 8));
     }
     children
 }
@@ -41,10 +41,9 @@ fn children(block: &[u8]) -> [Child; 9] {
 fn put(keys: &mut [u8; 2304], at: usize, key: &[u8])
     requires { at ≤ 2304 }
 {
-    if 2304 - at < key.len() {
-        return;
+    if key.len() <= 2304 - at {
+        keys[at..at + key.len()].copy_from_slice(key);
     }
-    keys[at..at + key.len()].copy_from_slice(key);
 }
 
 // Places that no separator uses hold a value, a length and key bytes that would be refused or seen if they were used.
@@ -73,7 +72,7 @@ fn given(block: &[u8]) -> Case {
     }
 }
 
-fn write_to(node: Node, dst: &mut [u8], room: usize) -> Written
+fn write_to(node: Node, dst: &mut [u8], room: usize) -> Result<usize, WriteError>
     requires { room ≤ length dst.old }
 {
     codec::write(node, &mut dst[..room])
@@ -89,18 +88,12 @@ fn writes(node: Node, form: &[u8], room: usize) -> bool {
     let written = write_to(node, &mut dst, room);
     let len = form.len();
     if room < len {
-        if written.number() != 10 {
-            return false;
-        }
-        if written.length() != 0 {
+        if written != Err(WriteError::ShortDestination) {
             return false;
         }
         return lists::filled(&dst, 0, MARK);
     }
-    if written.number() != 0 {
-        return false;
-    }
-    if written.length() != len {
+    if written != Ok(len) {
         return false;
     }
     if &dst[..len] != form {
@@ -112,23 +105,11 @@ fn writes(node: Node, form: &[u8], room: usize) -> bool {
 // With more room than the form needs, with just enough, and with one byte less.
 fn writes_in_all(node: Node, form: &[u8]) -> bool {
     let len = form.len();
-    if len == 0 {
-        return false;
-    }
-    if !writes(node, form, 2560) {
-        return false;
-    }
-    if !writes(node, form, len) {
-        return false;
-    }
-    writes(node, form, len - 1)
+    len != 0 && writes(node, form, 2560) && writes(node, form, len) && writes(node, form, len - 1)
 }
 
 pub fn agrees(block: &[u8]) -> bool {
     let case = given(block);
     let form = lists::part(block, case.at);
-    if form.end != block.len() {
-        return false;
-    }
-    writes_in_all(case.node, &block[form.start..form.end])
+    form.end == block.len() && writes_in_all(case.node, &block[form.start..form.end])
 }

@@ -5,13 +5,14 @@
 //
 // 0 looks the key up; 1 puts the cursor to a place (`number`) with a length (`value`); 2 seeks the key; 3 and 4 are a step
 // forward and backward, with the entry's key and value, or no key and 0 for none.
-use iter::{Cursor, LookedUp, Place, Step, Stepped};
+use iter::{Cursor, Place, Stepped, WalkError};
 use lists::{Tally, Verdict};
+use node::Value;
 
 // What stands behind the key of a cursor that is put somewhere.
 const MARK: u8 = 0xA5;
 
-// A question without its key.
+// A question without its key; its kind is the list's number, which `answer` alone reads.
 #[derive(Clone, Copy)]
 struct Question {
     kind: usize,
@@ -19,7 +20,7 @@ struct Question {
     value: u64,
 }
 
-// Whether the answer was the list's, with which number, and the cursor after it.
+// Whether the answer was the list's; and, either way, with which number, and the cursor after it: no Result.
 #[derive(Clone, Copy)]
 struct Outcome {
     agreed: bool,
@@ -29,43 +30,14 @@ struct Outcome {
 
 // ---- places and keys
 
-// 0 Start, 1 End, 2 At, 3 Seeked.
-fn kind_of(place: &Place) -> usize {
-    match place {
-        Place::Start => 0,
-        Place::End => 1,
-        Place::At(_) => 2,
-        Place::Seeked(_) => 3,
-    }
-}
-
-fn length_of(place: &Place) -> usize {
-    match place {
-        Place::Start => 0,
-        Place::End => 0,
-        Place::At(len) => *len,
-        Place::Seeked(len) => *len,
-    }
-}
-
+// The place that a number and a length name.
 fn place_of(kind: u32, len: usize) -> Place {
-    if kind == 0 {
-        return Place::Start;
+    match kind {
+        0 => Place::Start,
+        1 => Place::End,
+        2 => Place::At(len),
+        _ => Place::Seeked(len),
     }
-    if kind == 1 {
-        return Place::End;
-    }
-    if kind == 2 {
-        return Place::At(len);
-    }
-    Place::Seeked(len)
-}
-
-fn is_at(place: &Place, kind: usize, len: usize) -> bool {
-    if kind_of(place) != kind {
-        return false;
-    }
-    length_of(place) == len
 }
 
 // Whether the array holds this key and zeros behind it.
@@ -80,13 +52,6 @@ fn holds(array: &[u8], key: &[u8]) -> bool {
     lists::filled(array, len, 0)
 }
 
-fn same_cursor(a: &Cursor, b: &Cursor) -> bool {
-    if !is_at(&a.place, kind_of(&b.place), length_of(&b.place)) {
-        return false;
-    }
-    a.key.as_slice() == b.key.as_slice()
-}
-
 // A key array with this key in front and marks behind.
 fn marked(key: &[u8]) -> [u8; 288] {
     let mut array = [MARK; 288];
@@ -97,19 +62,18 @@ fn marked(key: &[u8]) -> [u8; 288] {
 
 // ---- the questions
 
-fn value_of(found: LookedUp) -> u64 {
-    match found {
-        LookedUp::Found(value) => value.0,
-        LookedUp::Absent => 0,
-        LookedUp::NotStore => 0,
-        LookedUp::LongKey => 0,
-        LookedUp::Bad => 0,
+// The value that a lookup or a step answers, 0 where there is none. As lent's `found_value`, and not by it: what a list is
+// compared with goes through `iter` alone.
+fn value_of(answer: Result<Option<Value>, WalkError>) -> u64 {
+    match answer {
+        Ok(Some(value)) => value.0,
+        _ => 0,
     }
 }
 
 fn look_up(store: &[u8], key: &[u8], cursor: Cursor, question: Question) -> Outcome {
     let found = iter::lookup(store, key);
-    let number = found.number();
+    let number = refusal::number(found);
     Outcome {
         agreed: number == question.number && value_of(found) == question.value,
         number,
@@ -141,38 +105,32 @@ fn seek(key: &[u8], cursor: Cursor, question: Question) -> Outcome {
     }
     let found = sought.cursor;
     Outcome {
-        agreed: question.number == 0 && is_at(&found.place, 3, key.len()) && holds(&found.key, key),
+        agreed: question.number == 0
+            && found.place == Place::Seeked(key.len())
+            && holds(&found.key, key),
         number,
         cursor: found,
     }
 }
 
-fn entry_value(step: Step) -> u64 {
-    match step {
-        Step::Entry(value) => value.0,
-        Step::Nothing => 0,
-        Step::NotStore => 0,
-        Step::LongKey => 0,
-        Step::Bad => 0,
-    }
-}
-
 // Whether the cursor is where the step should leave it: as it was, at the entry, or at an end with no key.
-fn moved(before: &Cursor, after: &Cursor, key: &[u8], question: Question, end: usize) -> bool {
+fn moved(before: &Cursor, after: &Cursor, key: &[u8], question: Question, end: Place) -> bool {
     if question.number != 0 {
-        return same_cursor(before, after);
+        return *before == *after;
     }
-    if question.value == 0 {
-        return is_at(&after.place, end, 0) && holds(&after.key, key);
-    }
-    is_at(&after.place, 2, key.len()) && holds(&after.key, key)
+    let place = if question.value == 0 {
+        end
+    } else {
+        Place::At(key.len())
+    };
+    after.place == place && holds(&after.key, key)
 }
 
-fn stepped(before: Cursor, after: Stepped, key: &[u8], question: Question, end: usize) -> Outcome {
+fn stepped(before: Cursor, after: Stepped, key: &[u8], question: Question, end: Place) -> Outcome {
     let step = after.step;
     let cursor = after.cursor;
-    let number = step.number();
-    let said = number == question.number && entry_value(step) == question.value;
+    let number = refusal::number(step);
+    let said = number == question.number && value_of(step) == question.value;
     Outcome {
         agreed: said && moved(&before, &cursor, key, question, end),
         number,
@@ -181,19 +139,25 @@ fn stepped(before: Cursor, after: Stepped, key: &[u8], question: Question, end: 
 }
 
 fn answer(store: &[u8], key: &[u8], cursor: Cursor, question: Question) -> Outcome {
-    if question.kind == 0 {
-        return look_up(store, key, cursor, question);
+    match question.kind {
+        0 => look_up(store, key, cursor, question),
+        1 => put(key, question),
+        2 => seek(key, cursor, question),
+        3 => stepped(
+            cursor,
+            iter::forward(store, cursor),
+            key,
+            question,
+            Place::End,
+        ),
+        _ => stepped(
+            cursor,
+            iter::backward(store, cursor),
+            key,
+            question,
+            Place::Start,
+        ),
     }
-    if question.kind == 1 {
-        return put(key, question);
-    }
-    if question.kind == 2 {
-        return seek(key, cursor, question);
-    }
-    if question.kind == 3 {
-        return stepped(cursor, iter::forward(store, cursor), key, question, 1);
-    }
-    stepped(cursor, iter::backward(store, cursor), key, question, 0)
 }
 
 // Asks all questions of the block from `from` on.

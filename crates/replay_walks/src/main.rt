@@ -3,7 +3,6 @@
 #![tactic(auto)]
 
 mod asked;
-mod laid;
 
 use lists::Tally;
 use std::fs::File;
@@ -22,7 +21,7 @@ fn replay_store<R: Read>(file: &mut R, tally: Tally) -> io::Result<Tally> {
     let mut block = [0u8; 65536];
     let mut room = [0u8; 65536];
     let len = lists::read_block(file, &mut block)?;
-    let span = laid::lay_out(&mut room, &block[..len]);
+    let span = lists::lay_out(&mut room, &block[..len]);
     Ok(ask_front(&room, span.start, &block[..len], span.end, tally))
 }
 

@@ -11,14 +11,13 @@ use Rattle.word.specs.Pick.{pick, pick_t, pick_f, by_test}
 use Rattle.word.specs.At.{fits_in, read_at}
 use Rattle.word.specs.Key.{Key, cmp, order_of}
 use Rattle.word.specs.Part.{part}
-use Rattle.word.specs.declared.Order.{Order}
-use Rattle.word.specs.declared.Order.TheVariants.{Less, Equal, Greater}
+use Rattle.std.specs.declared.cmp.Ordering.{Ordering}
+use Rattle.std.specs.declared.cmp.Ordering.TheVariants.{Less, Equal, Greater}
 use Rattle.node.specs.declared.Child.{Child}
 use Rattle.codec.specs.declared.Ending.{Ending}
 use Rattle.codec.specs.declared.Ending.TheVariants.{NoByteLeft, BytesIgnored, ShortChild}
+use Rattle.std.specs.Prelude.{Result, Ok, Err}
 use Rattle.codec.specs.declared.Head.{Head}
-use Rattle.codec.specs.declared.Head.TheVariants.{Separator, Ended}
-use Rattle.node.specs.declared.Value.{Value}
 use Rattle.search.specs.declared.Turn.{Turn}
 use Rattle.search.specs.declared.Turn.TheVariants.{First, NotBelow, Above, Last}
 use Rattle.search.specs.declared.Spot.{Spot}
@@ -32,7 +31,7 @@ use Rattle.search.specs.Search.{bar_of, rank_of, passes, meets, misfits, empty_s
 
 -- ---- one child, one separator
 
-pass_numbers : (t : Turn) (o : Order) → leb (bar_of t) (rank_of o) ≡ passes t o
+pass_numbers : (t : Turn) (o : Ordering) → leb (bar_of t) (rank_of o) ≡ passes t o
 pass_numbers First Less = refl
 pass_numbers First Equal = refl
 pass_numbers First Greater = refl
@@ -46,15 +45,8 @@ pass_numbers Last Less = refl
 pass_numbers Last Equal = refl
 pass_numbers Last Greater = refl
 
-pub pass_told : (t : Turn) (o : Order) {b k : ℕ} → b ≡ bar_of t → k ≡ rank_of o → leb b k ≡ passes t o
+pub pass_told : (t : Turn) (o : Ordering) {b k : ℕ} → b ≡ bar_of t → k ≡ rank_of o → leb b k ≡ passes t o
 pass_told t o p q = rw (p, q) (pass_numbers t o)
-
-module _ (c : Child) where
-  pub misfit_leaf : {leaf : Bool} → leaf ≡ true → not (eqb c.0 0) ≡ misfits leaf c
-  misfit_leaf e = ap (λ (b : Bool). misfits b c) (sym e)
-
-  pub misfit_above : {leaf : Bool} → leaf ≡ false → eqb c.0 0 ≡ misfits leaf c
-  misfit_above e = ap (λ (b : Bool). misfits b c) (sym e)
 
 module _ (v : Sight) (c : Child) where
   pub child_seen : v.turned ≡ false → with_child v c ≡ met_child v c
@@ -66,11 +58,11 @@ module _ (v : Sight) (c : Child) where
   child_passed h = sym (pick_t _ _ h)
 
 module _ (t : Turn) (v : Sight) (x : Spot) where
-  spot_counted : (o : Order) → v.turned ≡ true → counted v ≡ met_spot t v x o
+  spot_counted : (o : Ordering) → v.turned ≡ true → counted v ≡ met_spot t v x o
   unfolding met_spot
   spot_counted o h = sym (pick_t _ _ h)
 
-  module _ {o q : Order} {p : Bool} (h : v.turned ≡ false) (e : o ≡ q) (a : p ≡ passes t o) where
+  module _ {o q : Ordering} {p : Bool} (h : v.turned ≡ false) (e : o ≡ q) (a : p ≡ passes t o) where
     passes_so : {b : Bool} → p ≡ b → passes t q ≡ b
     passes_so b = ap (passes t) (sym e) ∙ sym a ∙ b
 
@@ -125,10 +117,13 @@ module _ {t : Turn} {leaf : Bool} {s : List ℕ} {k : Key} {r : Sight} where
 
 -- ---- the ways through a loop
 
+abbrev spot_at : Head → Spot
+spot_at h = record { start = h.start; len = h.len; value = h.value }
+
 module _ (s : List ℕ) where
-  follow_first : (next : ℕ → Scan) (c : ℕ) (h : Head) → (follow s next c h).first ≡ c
-  follow_first next c (Separator v start len plain) = refl
-  follow_first next c (Ended e) = refl
+  follow_first : (next : ℕ → Scan) (c : ℕ) (d : Result Head Ending) → (follow s next c d).first ≡ c
+  follow_first next c (Ok h) = refl
+  follow_first next c (Err e) = refl
 
 module _ (t : Turn) (leaf : Bool) (s : List ℕ) (k : Key) where
   -- what is left to scan, behind what was seen, makes the whole
@@ -161,21 +156,21 @@ module _ (t : Turn) (leaf : Bool) (s : List ℕ) (k : Key) where
         walk_whole : at + 8 ≡ length s → Saw t leaf s k u
         walk_whole e = saw_all (q ∙ sym (l ∙ ap (sight_in t leaf s k v) (in_bytes ∙ pick_t _ _ (eq-eqb _ _ e)) ∙ stopped_lem t leaf s k v c (sym a ∙ y)))
 
-        module _ (z : at + 8 ≡ length s → ⊥) {d : Head} (j : d ≡ head_at s (at + 8)) where
-          behind_lem : {x : Head} → d ≡ x → sight_of t leaf s k ≡ sight_in t leaf s k v (follow s (scan_from s (8 - (i + 1))) c x)
+        module _ (z : at + 8 ≡ length s → ⊥) {d : Result Head Ending} (j : d ≡ head_at s (at + 8)) where
+          behind_lem : {x : Result Head Ending} → d ≡ x → sight_of t leaf s k ≡ sight_in t leaf s k v (follow s (scan_from s (8 - (i + 1))) c x)
           behind_lem e = l ∙ ap (sight_in t leaf s k v) (in_bytes ∙ pick_f _ _ (ne_eqb _ _ z) ∙ ap (follow s (scan_from s (8 - (i + 1))) c) (sym j ∙ e))
 
-          walk_end : {e : Ending} {r : Sight} → d ≡ Ended e → r.good ≡ false → Saw t leaf s k r
+          walk_end : {e : Ending} {r : Sight} → d ≡ Err e → r.good ≡ false → Saw t leaf s k r
           walk_end {e} x = saw_none (behind_lem x ∙ refused t leaf s k v (stop e c) (head_ends s (at + 8) j x))
 
-          walk_low : {w : Value} {start len : ℕ} {plain : Bool} {r : Sight} → d ≡ Separator w start len plain → not plain ≡ true → r.good ≡ false → Saw t leaf s k r
-          walk_low {w} {start} {len} {plain} x low = saw_none (behind_lem x ∙ refused t leaf s k v (follow s (scan_from s (8 - (i + 1))) c (Separator w start len plain)) (rw (not-true plain low)))
+          walk_low : {o : Head} {r : Sight} → d ≡ Ok o → not o.plain ≡ true → r.good ≡ false → Saw t leaf s k r
+          walk_low {o} x low = saw_none (behind_lem x ∙ refused t leaf s k v (follow s (scan_from s (8 - (i + 1))) c (Ok o)) (rw (not-true o.plain low)))
 
-          walk_spot : {w : Value} {start len : ℕ} {plain : Bool} (r : Sight) → d ≡ Separator w start len plain → not plain ≡ false
-              → r ≡ met_spot t u (record { start = start; len = len; value = w }) (order_of (cmp k (part s start len))) → Seen r (start + len) (i + 1)
-          walk_spot {w} {start} {len} {plain} r x p e =
-              behind_lem x ∙ passed_lem t leaf s k v c (record { value = w.0; start = start; len = len; plain = plain }) _ (not-false plain p) (sym a ∙ y)
-              ∙ ap (λ (r : Sight). sight_in t leaf s k r (scan_from s (8 - (i + 1)) (start + len))) (ap (λ (u : Sight). met_spot t u (record { start = start; len = len; value = w }) (order_of (cmp k (part s start len)))) (sym q) ∙ sym e)
+          walk_spot : {o : Head} (r : Sight) → d ≡ Ok o → not o.plain ≡ false
+              → r ≡ met_spot t u (spot_at o) (order_of (cmp k (part s o.start o.len))) → Seen r (o.start + o.len) (i + 1)
+          walk_spot {o} r x p e =
+              behind_lem x ∙ passed_lem t leaf s k v c (record { value = o.value.0; start = o.start; len = o.len; plain = o.plain }) _ (not-false o.plain p) (sym a ∙ y)
+              ∙ ap (λ (r : Sight). sight_in t leaf s k r (scan_from s (8 - (i + 1)) (o.start + o.len))) (ap (λ (u : Sight). met_spot t u (spot_at o) (order_of (cmp k (part s o.start o.len)))) (sym q) ∙ sym e)
 
   -- ---- the child behind the eighth separator
 
@@ -228,14 +223,14 @@ module _ (leaf : Bool) (s : List ℕ) (v : Sight) (at : ℕ) where
         pub on_whole : at + 8 ≡ length s → GoesOn leaf s v at v
         on_whole e t k w o l = walk_whole t leaf s k v at v.count l h f n g a v y (child_passed v (child_of c) w) e
 
-        module _ (z : at + 8 ≡ length s → ⊥) {d : Head} (j : d ≡ head_at s (at + 8)) where
-          pub on_end : {e : Ending} {r : Sight} → d ≡ Ended e → r.good ≡ false → GoesOn leaf s v at r
+        module _ (z : at + 8 ≡ length s → ⊥) {d : Result Head Ending} (j : d ≡ head_at s (at + 8)) where
+          pub on_end : {e : Ending} {r : Sight} → d ≡ Err e → r.good ≡ false → GoesOn leaf s v at r
           on_end x e t k w o l = walk_end t leaf s k v at v.count l h f n g a v y (child_passed v (child_of c) w) z j x e
 
-          pub on_low : {x : Value} {start len : ℕ} {plain : Bool} {r : Sight} → d ≡ Separator x start len plain → not plain ≡ true → r.good ≡ false → GoesOn leaf s v at r
+          pub on_low : {p : Head} {r : Sight} → d ≡ Ok p → not p.plain ≡ true → r.good ≡ false → GoesOn leaf s v at r
           on_low x p e t k w o l = walk_low t leaf s k v at v.count l h f n g a v y (child_passed v (child_of c) w) z j x p e
 
-          pub on_spot : {x : Value} {start len : ℕ} {plain : Bool} (r : Sight) → d ≡ Separator x start len plain → not plain ≡ false → GoesOn leaf s (counted v) (start + len) r → GoesOn leaf s v at r
+          pub on_spot : {p : Head} (r : Sight) → d ≡ Ok p → not p.plain ≡ false → GoesOn leaf s (counted v) (p.start + p.len) r → GoesOn leaf s v at r
           on_spot r x p q t k w o l =
               q t k w (omega arith)
               (walk_spot t leaf s k v at v.count l h f n g a v y (child_passed v (child_of c) w) z j (counted v) x p (spot_counted t v _ _ w))
@@ -273,25 +268,25 @@ module _ (t : Turn) (leaf : Bool) (s : List ℕ) (k : Key) where
           pub going_whole : at + 8 ≡ length s → Saw t leaf s k u
           going_whole = walk_whole t leaf s k v at v.count l.2 h f n g a u y seen
 
-          module _ (z : at + 8 ≡ length s → ⊥) {d : Head} (j : d ≡ head_at s (at + 8)) where
-            pub going_end : {e : Ending} {r : Sight} → d ≡ Ended e → r.good ≡ false → Saw t leaf s k r
+          module _ (z : at + 8 ≡ length s → ⊥) {d : Result Head Ending} (j : d ≡ head_at s (at + 8)) where
+            pub going_end : {e : Ending} {r : Sight} → d ≡ Err e → r.good ≡ false → Saw t leaf s k r
             going_end = walk_end t leaf s k v at v.count l.2 h f n g a u y seen z j
 
-            pub going_low : {x : Value} {start len : ℕ} {plain : Bool} {r : Sight} → d ≡ Separator x start len plain → not plain ≡ true → r.good ≡ false → Saw t leaf s k r
+            pub going_low : {x : Head} {r : Sight} → d ≡ Ok x → not x.plain ≡ true → r.good ≡ false → Saw t leaf s k r
             going_low = walk_low t leaf s k v at v.count l.2 h f n g a u y seen z j
 
-            module _ {x : Value} {start len : ℕ} {plain : Bool} (sep : d ≡ Separator x start len plain) (as_written : not plain ≡ false) {o : Order} (e : o ≡ order_of (cmp k (part s start len))) {p : Bool} (told : p ≡ passes t o) where
+            module _ {x : Head} (sep : d ≡ Ok x) (as_written : not x.plain ≡ false) {o : Ordering} (e : o ≡ order_of (cmp k (part s x.start x.len))) {p : Bool} (told : p ≡ passes t o) where
               abbrev spot : Spot
-              spot = record { start = start; len = len; value = x }
+              spot = spot_at x
 
-              pub going_turn : {b : Bool} {w r : Sight} → not p ≡ true → b ≡ meets t o → w ≡ at_spot u spot b → GoesOn leaf s w (start + len) r → Saw t leaf s k r
+              pub going_turn : {b : Bool} {w r : Sight} → not p ≡ true → b ≡ meets t o → w ≡ at_spot u spot b → GoesOn leaf s w (x.start + x.len) r → Saw t leaf s k r
               going_turn {b} {w} {r} left met is q =
-                  let on : Seen t leaf s k (at_spot u spot b) (start + len) (v.count + 1) =
+                  let on : Seen t leaf s k (at_spot u spot b) (x.start + x.len) (v.count + 1) =
                   walk_spot t leaf s k v at v.count l.2 h f n g a u y seen z j (at_spot u spot b) sep as_written (spot_turned t u spot l.1 e told left met) in
-                  subst (λ (w : Sight). GoesOn leaf s w (start + len) r) is q t k refl (omega arith) on
+                  subst (λ (w : Sight). GoesOn leaf s w (x.start + x.len) r) is q t k refl (omega arith) on
 
-              pub going_behind : {r : Sight} → not p ≡ false → r ≡ behind_spot u spot → Going r (start + len)
+              pub going_behind : {r : Sight} → not p ≡ false → r ≡ behind_spot u spot → Going r (x.start + x.len)
               going_behind passed_lem is =
-                  let on : Seen t leaf s k (behind_spot u spot) (start + len) (v.count + 1) =
+                  let on : Seen t leaf s k (behind_spot u spot) (x.start + x.len) (v.count + 1) =
                   walk_spot t leaf s k v at v.count l.2 h f n g a u y seen z j (behind_spot u spot) sep as_written (spot_passed t u spot l.1 e told passed_lem) in
-                  subst (λ (r : Sight). Going r (start + len)) (sym is) (omega arith, l.1, on)
+                  subst (λ (r : Sight). Going r (x.start + x.len)) (sym is) (omega arith, l.1, on)

@@ -11,7 +11,7 @@ use native.Mathlib.Numerals.{add-one}
 use borrow.Author.Tests.{lt-ltb, le-ltb}
 use Rattle.word.specs.Pick.{pick, pick_t, pick_f, by_test}
 use Rattle.word.specs.Key.{Key}
-use Rattle.word.specs.declared.Order.{Order}
+use Rattle.std.specs.declared.cmp.Ordering.{Ordering}
 use Rattle.tree.proofs.Cases.{by_bool}
 use Rattle.node.specs.declared.Child.{Child}
 use Rattle.node.specs.declared.Value.{Value}
@@ -38,7 +38,7 @@ child_good : (v : Sight) (c : Child) → (met_child v c).good ≡ v.good
 unfolding met_child
 child_good v c = by_test (λ (u : Sight). u.good ≡ v.good) v.turned (λ e. refl) (λ e. refl)
 
-spot_good : (t : Turn) (v : Sight) (x : Spot) (o : Order) → (met_spot t v x o).good ≡ v.good
+spot_good : (t : Turn) (v : Sight) (x : Spot) (o : Ordering) → (met_spot t v x o).good ≡ v.good
 unfolding met_spot
 spot_good t v x o =
     by_test (λ (u : Sight). u.good ≡ v.good) v.turned (λ e. refl)
@@ -105,7 +105,7 @@ turn_none Above s k = found_none k true
 turn_none Last s k = refl
 
 turn_step : (t : Turn) (s : List ℕ) (k : Key) (x : codec.Spot × ℕ) (r : List (codec.Spot × ℕ))
-    → let o : Order = order_with s k x.0 in turn_in t s k (x ∷ r) ≡ pick (passes t o) (behind 1 (turn_in t s k r)) (found 0 (meets t o))
+    → let o : Ordering = order_with s k x.0 in turn_in t s k (x ∷ r) ≡ pick (passes t o) (behind 1 (turn_in t s k r)) (found 0 (meets t o))
 turn_step First s k x r = sym (pick_f _ _ refl)
 turn_step NotBelow s k x r = found_turn k false (step_of s x) (map (step_of s) r)
 turn_step Above s k x r = found_turn k true (step_of s x) (map (step_of s) r)
@@ -148,7 +148,7 @@ module _ (t : Turn) (s : List ℕ) (k : Key) (p : Places) (g : Bool) where
   gone_sees n i at c here before d (x ∷ r) h l e kid sep prev = gone_sees (n + 1) i at c here before x.1 r h.2 (omega arith) e kid sep prev
 
   going_step : (i : ℕ) (c : Child) (here before : Spot) (d : ℕ) (x : codec.Spot × ℕ) (r : List (codec.Spot × ℕ))
-      → let o : Order = order_with s k x.0 in
+      → let o : Ordering = order_with s k x.0 in
       along t s k (going g i c here before) d (x ∷ r)
       ≡ along t s k (pick (passes t o) (going g (i + 1) (child_of d) here (spot_of x.0)) (gone g (i + 1) i (meets t o) (child_of d) (spot_of x.0) before)) x.1 r
   unfolding along met_child met_spot pick
@@ -174,7 +174,7 @@ module _ (t : Turn) (s : List ℕ) (k : Key) (p : Places) (g : Bool) where
       } in
       subst (Sees t p s k) (sym (going_end i c here before d)) w
   going_sees i c here before d (x ∷ r) h e prev =
-      let o : Order = order_with s k x.0 in
+      let o : Ordering = order_with s k x.0 in
       let f : turn_at t p s k ≡ pick (passes t o) (behind (i + 1) (turn_in t s k r)) (found i (meets t o)) =
       e ∙ ap (behind i) (turn_step t s k x r) ∙ sym (spread (passes t o) i (meets t o) (turn_in t s k r)) in
       let last : i + 1 - 1 ≡ i = omega arith in

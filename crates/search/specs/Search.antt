@@ -4,8 +4,9 @@ use Rattle.std.specs.Prelude.{◌≡◌, List, [], ◌∷◌, map, Bool, true, f
 use Rattle.word.specs.Pick.{pick}
 use Rattle.word.specs.Key.{Key, cmp, order_of}
 use Rattle.word.specs.Part.{part}
-use Rattle.word.specs.declared.Order.{Order}
-use Rattle.word.specs.declared.Order.TheVariants.{Less, Equal, Greater}
+use Rattle.std.specs.Ordering.{is_eq}
+use Rattle.std.specs.declared.cmp.Ordering.{Ordering}
+use Rattle.std.specs.declared.cmp.Ordering.TheVariants.{Less, Equal, Greater}
 use Rattle.node.specs.declared.Child.{Child}
 use Rattle.codec.specs.declared.Places.{Places}
 use Rattle.codec.specs.declared.position.Found.{Found}
@@ -17,7 +18,7 @@ use Rattle.codec.specs.Codec as codec
 use Rattle.codec.specs.Codec.{Scan, scan_from}
 use Rattle.node.specs.Chain.{child_of, value_of}
 use Rattle.codec.specs.Layout.{any_of, is_whole}
-use Rattle.codec.specs.Position.{found, goes_on, is_equal, position_of}
+use Rattle.codec.specs.Position.{found, goes_on, position_of}
 
 -- ---- one separator, one child
 
@@ -28,23 +29,23 @@ bar_of NotBelow = 2
 bar_of Above = 1
 bar_of Last = 0
 
-abbrev pub rank_of : Order → ℕ
+abbrev pub rank_of : Ordering → ℕ
 rank_of Less = 0
 rank_of Equal = 1
 rank_of Greater = 2
 
 -- whether the walk goes on behind a separator, to whose key the walk's has this order
-abbrev pub passes : Turn → Order → Bool
+abbrev pub passes : Turn → Ordering → Bool
 passes First o = false
 passes NotBelow o = goes_on false o
 passes Above o = goes_on true o
 passes Last o = true
 
 -- whether the separator where it turns has the key
-abbrev pub meets : Turn → Order → Bool
+abbrev pub meets : Turn → Ordering → Bool
 meets First o = false
-meets NotBelow o = is_equal o
-meets Above o = is_equal o
+meets NotBelow o = is_eq o
+meets Above o = is_eq o
 meets Last o = false
 
 -- "children that fit its depth (none at 0; separators plus one above)": one that is there in a leaf, or is missing above
@@ -77,7 +78,7 @@ abbrev pub at_spot : Sight → Spot → Bool → Sight
 at_spot v x b = record { good = v.good; turned = true; count = v.count + 1; found = found v.count b; child = v.child; here = x; before = v.before }
 
 -- the walk's key has the order o to that of x
-unfoldable pub met_spot : Turn → Sight → Spot → Order → Sight
+unfoldable pub met_spot : Turn → Sight → Spot → Ordering → Sight
 met_spot t v x o = pick v.turned (counted v) (pick (passes t o) (behind_spot v x) (at_spot v x (meets t o)))
 
 -- ---- the walk along what is scanned
@@ -85,7 +86,7 @@ met_spot t v x o = pick v.turned (counted v) (pick (passes t o) (behind_spot v x
 abbrev pub spot_of : codec.Spot → Spot
 spot_of x = record { start = x.start; len = x.len; value = value_of x.value }
 
-abbrev pub order_with : List ℕ → Key → codec.Spot → Order
+abbrev pub order_with : List ℕ → Key → codec.Spot → Ordering
 order_with s k x = order_of (cmp k (part s x.start x.len))
 
 module _ (t : Turn) (s : List ℕ) (k : Key) where

@@ -2,8 +2,9 @@
 // value." Apart from the program, so that test programs can give it other texts.
 #![tactic(auto)]
 
-use iter::{Cursor, Place, Step};
+use iter::{Cursor, Place};
 use node::Value;
+use refusal::Refusal;
 use std::io;
 use std::io::Write;
 
@@ -15,9 +16,10 @@ const MOST_ENTRIES: u32 = 200;
 // "A refusal writes one line: `refused` TAB number TAB applied."
 fn say_refused<W: Write>(out: &mut W, number: u32, applied: usize) -> io::Result<()> {
     let mut line = [0u8; 64];
-    let len = cikolaro::write_refused(number, applied as u64, &mut line);
-    if len <= 64 {
-        out.write_all(&line[..len])?;
+    if let Some(len) = cikolaro::write_refused(number, applied as u64, &mut line) {
+        if len <= 64 {
+            out.write_all(&line[..len])?;
+        }
     }
     Ok(())
 }
@@ -25,26 +27,19 @@ fn say_refused<W: Write>(out: &mut W, number: u32, applied: usize) -> io::Result
 fn say_entry<W: Write>(out: &mut W, key: &[u8], value: Value) -> io::Result<()> {
     // two digits for each of 288 bytes, TAB, 20 digits, LF
     let mut line = [0u8; 600];
-    let len = cikolaro::write_entry(key, value.0, &mut line);
-    if len <= 600 {
-        out.write_all(&line[..len])?;
+    if let Some(len) = cikolaro::write_entry(key, value.0, &mut line) {
+        if len <= 600 {
+            out.write_all(&line[..len])?;
+        }
     }
     Ok(())
 }
 
-// How much of a cursor's key array is the key of the entry that it came to; more than there is, where it is at none.
-fn found_length(place: &Place) -> usize {
-    match place {
-        Place::Start => 289,
-        Place::End => 289,
-        Place::Seeked(_) => 289,
-        Place::At(len) => *len,
-    }
-}
-
+// The entry that a cursor came to; nothing where it is at none.
 fn say_found<W: Write>(out: &mut W, cursor: &Cursor, value: Value) -> io::Result<()> {
-    let len = found_length(&cursor.place);
-    if len <= 288 {
+    if let Place::At(len) = cursor.place
+        && len <= 288
+    {
         say_entry(out, &cursor.key[..len], value)?;
     }
     Ok(())
@@ -58,13 +53,10 @@ fn say_entries<W: Write>(out: &mut W, store: &[u8]) -> io::Result<()> {
     for _ in 0..MOST_ENTRIES {
         let stepped = cikolaro::forward(store, cursor);
         cursor = stepped.cursor;
-        match stepped.step {
-            Step::Entry(value) => say_found(out, &cursor, value)?,
-            Step::Nothing => return Ok(()),
-            Step::NotStore => return Ok(()),
-            Step::LongKey => return Ok(()),
-            Step::Bad => return Ok(()),
-        }
+        let Ok(Some(value)) = stepped.step else {
+            return Ok(());
+        };
+        say_found(out, &cursor, value)?;
     }
     Ok(())
 }
@@ -75,11 +67,12 @@ pub fn run<W: Write>(out: &mut W, text: &[u8]) -> io::Result<()> {
     let mut marks = [0u64; 1];
     // the most that 16,384 bytes of text can say
     let mut records = [0u8; 36038];
-    cikolaro::format(&mut store, SLOTS);
+    if let Err(error) = cikolaro::format(&mut store, SLOTS) {
+        return say_refused(out, error.number(), 0);
+    }
     let ended = cikolaro::run_lines(&mut store, &mut marks, &mut records, text);
-    let number = ended.answer.number();
-    if number != 0 {
-        return say_refused(out, number, ended.applied);
+    if let Err(error) = ended.answer {
+        return say_refused(out, error.number(), ended.applied);
     }
     say_entries(out, &store)
 }

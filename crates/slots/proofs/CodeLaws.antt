@@ -2,51 +2,55 @@
 -- leaves is `fresh`; and the ties between the code's structs and the chains of specs/Mirror. Assumes nothing.
 use mathlib.Core.Path.{◌≡◌, refl, sym, ap, ◌∙◌}
 use mathlib.Core.List.{List, [], ◌∷◌, ◌++◌, map, append_assoc, append-nil}
-use mathlib.Core.Bool.{Bool, true, false, cond, ◌&&◌, ◌||◌, not, and_assoc}
+use mathlib.Core.Bool.{Bool, true, false, cond, ◌&&◌, ◌||◌, not}
 use mathlib.Core.Option.{none, some}
+use Rattle.std.specs.Prelude as std
+use Rattle.std.specs.Prelude.{Some, None, Result, Ok, Err, min}
+use Rattle.std.specs.List.{list_all}
+use Rattle.std.proofs.lemmas.List.{take_min}
 use Prim.Native.Nat.{ℕ, zero, suc, ◌+◌, ◌*◌, ◌-◌, ◌≤◌, ◌<◌}
-use lib.ListN.{length, take, drop, get_or, replicate, length-append, length-map}
+use lib.ListN.{length, take, drop, replicate, length-append, length-map}
 use lib.Seq.{take_at, drop-drop}
 use lib.Dec.{leb, eqb}
 use native.Mathlib.Numerals.{add-one}
 use native.Mathlib.Omega.{arith}
-use borrow.Author.Tests.{leb-true, eqb-true, not-true, not-false, le-leb, lt-leb, eq-eqb, ne_eqb}
+use borrow.Author.Tests.{leb-true, eqb-true, not-true, not-false}
 use Rattle.word.specs.Pick.{pick, pick_t, pick_f, by_test}
 use Rattle.word.specs.Part.{part, over}
 use Rattle.word.specs.Num.{le, zeros, Bytes}
-use Rattle.word.specs.At.{fits_in, read_at, write_at, clear_at, zero_at}
+use Rattle.word.specs.At.{fits_in, read_at, write_at, clear_at}
 use Rattle.word.proofs.PartLaws.{length_part, length_over, over_part, over_in, over_seam}
 use Rattle.word.proofs.NumLaws.{length_le, length_zeros, zeros_append, bytes_part}
 use Rattle.word.proofs.AtLaws.{write_at_in, length_write_at, clear_at_in}
 use Rattle.tree.specs.State.{AllRight}
 use Rattle.tree.proofs.Cases as cases
 use Rattle.node.specs.declared.Child.{Child}
+use Rattle.node.specs.declared.Slot.{Slot}
 use Rattle.codec.specs.declared.Places.{Places}
 use Rattle.codec.specs.declared.Reading.{Reading}
 use Rattle.node.specs.declared.Node as struct
-use Rattle.codec.specs.declared.Written.{Written}
-use Rattle.codec.specs.declared.Written.TheVariants as written
+use Rattle.std.specs.Prelude.{Result, Ok, Err}
+use Rattle.codec.specs.declared.WriteError.{WriteError}
+use Rattle.codec.specs.declared.WriteError.TheVariants.{LongKey, NoValue, ShortDestination, TooMany}
 use Rattle.codec.specs.declared.Ending.TheVariants.{ShortChild}
 use Rattle.node.specs.Chain as chain
 use Rattle.node.specs.Chain.{Step, Writable, child_of, padded, node_of, steps_of}
 use Rattle.codec.specs.Codec.{encode, decode, is_accepted, stop, settle, scan_from, scan}
 use Rattle.codec.specs.Strict.{strict_of, standard_of}
 use Rattle.codec.specs.Mirror.{copied}
-use Rattle.codec.specs.Layout.{places_of, reading_of, any_of, any_first, written_of, left_by, written_number, written_length}
+use Rattle.codec.specs.Layout.{places_of, reading_of, any_of, any_first, written_of, left_by, write_error_number, written_number}
 use Rattle.codec.specs.Layout as layout
-use Rattle.codec.proofs.EncodeLaws.{length_encode}
 use Rattle.codec.proofs.ReadLaws.{read_done}
 use Rattle.node.proofs.ChainLaws.{steps_node, first_node}
-use Rattle.codec.proofs.Theorems.{when_done, standard_most, writes_chain, scan_writable}
+use Rattle.codec.proofs.Theorems.{Accepted, when_done, standard_most, writes_chain, scan_writable}
 use Rattle.codec.proofs.StrictLaws.{strict_flag}
-use Rattle.codec.proofs.WriteLaws.{AnyLeft, any_start, any_none, any_past, any_here, any_turn}
-use Rattle.slots.specs.declared.Formatted.{Formatted}
-use Rattle.slots.specs.declared.Formatted.TheVariants.{Done, Refused}
+use Rattle.slots.specs.declared.FormatError.{FormatError}
+use Rattle.slots.specs.declared.FormatError.TheVariants.{NotStore}
 use Rattle.slots.specs.Limits.{header_size, slot_size, most_slots, least_node, most_node}
-use Rattle.slots.specs.Layout.{header, idle, start, count_of, first_of, is_store}
-use Rattle.slots.specs.Mirror.{is_slot, length_at, node_bytes, holds_node, read_of, read_node, write_node, take_slot, free_slot, set_root}
+use Rattle.slots.specs.Layout.{header, idle, start, count_of}
+use Rattle.slots.specs.Mirror.{is_slot, length_at, node_bytes, holds_node, read_of, read_node, write_node}
 use Rattle.slots.specs.Format.{blanks, fresh}
-use Rattle.slots.specs.Code.{has_size, slot_of, raw_in, bytes_in, places_in, reading_in, first_in, rest_in, node_in, misfits, children_fit, fits_depth, places_at, reading_at, chain_fits, when_fit, read_node_at, node_room, written_in, has_free, linked, format_number, Formats}
+use Rattle.slots.specs.Code.{has_size, slot_of, some_slot, raw_in, bytes_in, places_in, reading_in, first_in, rest_in, node_in, misfits, children_fit, fits_depth, places_at, reading_at, chain_fits, when_fit, read_node_at, node_room, written_in, has_free, linked, format_number, Formats}
 
 pub both_true : (a b : Bool) → (a && b) ≡ true → (a ≡ true) × (b ≡ true)
 both_true true b e = (refl, e)
@@ -55,18 +59,6 @@ both_true false b e = (e, cc)
 -- ---- the test for refusal 1
 
 module _ (len n : ℕ) where
-  pub size_1 : n < 1 → false ≡ has_size len n
-  unfolding has_size
-  size_1 h = rw (lt-leb 1 n h)
-
-  pub size_2 : 1 ≤ n → most_slots < n → false ≡ has_size len n
-  unfolding has_size
-  size_2 l h = rw (le-leb 1 n l, lt-leb n most_slots h)
-
-  pub size_3 : 1 ≤ n → n ≤ most_slots → eqb len (header_size + slot_size * n) ≡ has_size len n
-  unfolding has_size
-  size_3 l h = rw (le-leb 1 n l, le-leb n most_slots h)
-
   pub record Sized : Type 0 where
     pub least : 1 ≤ n
     pub most : n ≤ most_slots
@@ -78,21 +70,6 @@ module _ (len n : ℕ) where
       let p = both_true (leb 1 n) (leb n most_slots && eqb len (header_size + slot_size * n)) e in
       let q = both_true (leb n most_slots) (eqb len (header_size + slot_size * n)) p.1 in
       record { least = leb-true 1 n p.0; most = leb-true n most_slots q.0; size = eqb-true len (header_size + slot_size * n) q.1 }
-
-module _ (s : List ℕ) {n : ℕ} {b : Bool} (count : n ≡ count_of s) (size : b ≡ has_size (length s) n) where
-  in_two_lem : is_store s ≡ (has_size (length s) (count_of s) && zero_at s 20 4)
-  unfolding is_store has_size
-  in_two_lem =
-      let l : Bool = leb 1 (count_of s) in
-      let m : Bool = leb (count_of s) most_slots in
-      let z : Bool = eqb (length s) (header_size + slot_size * count_of s) in
-      sym (and_assoc l (m && z) (zero_at s 20 4) ∙ ap (λ (t : Bool). l && t) (and_assoc m z (zero_at s 20 4)))
-
-  pub store_1 : not b ≡ true → false ≡ is_store s
-  store_1 h = let e : has_size (length s) (count_of s) ≡ false = rw count at (sym size) ∙ not-true b h in rw (in_two_lem, e)
-
-  pub store_2 : {z : Bool} → not b ≡ false → z ≡ zero_at s 20 4 → z ≡ is_store s
-  store_2 h q = let e : has_size (length s) (count_of s) ≡ true = rw count at (sym size) ∙ not-false b h in rw (in_two_lem, e) q
 
 -- ---- slots
 
@@ -112,203 +89,44 @@ module _ (s : List ℕ) (x : ℕ) where
       let c = leb-true (header_size + slot_size * x) (length s) q.1 in
       record { least = a; most = leb-true x (count_of s) q.0; fits = c; within = omega arith }
 
-  pub slot_1 : x < 1 → 0 ≡ slot_of s x
-  unfolding slot_of is_slot
-  slot_1 h = sym (pick_f _ _ (rw (lt-leb 1 x h)))
-
-  pub slot_2 : {n : ℕ} → n ≡ count_of s → 1 ≤ x → n < x → 0 ≡ slot_of s x
-  unfolding slot_of is_slot
-  slot_2 e l h = sym (pick_f _ _ (rw (le-leb 1 x l, lt-leb x (count_of s) (rw e at h))))
-
-  pub slot_3 : {n : ℕ} → n ≡ count_of s → 1 ≤ x → x ≤ n → length s < header_size + slot_size * x → 0 ≡ slot_of s x
-  unfolding slot_of is_slot
-  slot_3 e l m h = sym (pick_f _ _ (rw (le-leb 1 x l, le-leb x (count_of s) (rw e at m), lt-leb (header_size + slot_size * x) (length s) h)))
-
-  pub slot_4 : {n : ℕ} → n ≡ count_of s → 1 ≤ x → x ≤ n → header_size + slot_size * x ≤ length s → x ≡ slot_of s x
-  unfolding slot_of is_slot
-  slot_4 e l m h = sym (pick_t _ _ (rw (le-leb 1 x l, le-leb x (count_of s) (rw e at m), le-leb (header_size + slot_size * x) (length s) h)))
-
-  -- what an answer of `slot_of` says
-  module _ {m : ℕ} (answer : m ≡ slot_of s x) where
-    pub no_slot : m ≡ 0 → is_slot s x ≡ false
-    unfolding slot_of
-    no_slot =
-        by_test (λ (v : ℕ). m ≡ v → m ≡ 0 → is_slot s x ≡ false) (is_slot s x)
-        (λ e p q. let w = whole e in absurd (omega (arith, w.least, p, q)))
-        (λ e p q. e) answer
-
-    pub a_slot : (m ≡ 0 → ⊥) → (is_slot s x ≡ true) × (m ≡ x)
-    unfolding slot_of
-    a_slot =
-        by_test (λ (v : ℕ). m ≡ v → (m ≡ 0 → ⊥) → (is_slot s x ≡ true) × (m ≡ x)) (is_slot s x)
-        (λ e p q. (e, p))
-        (λ e p q. absurd (q p)) answer
-
-    pub is_slot_1 : m ≡ 0 → false ≡ is_slot s x
-    is_slot_1 h = sym (no_slot h)
-
-    pub is_slot_2 : (m ≡ 0 → ⊥) → true ≡ is_slot s x
-    is_slot_2 h = sym (a_slot h).0
-
--- ---- the bytes of a node
-
-module _ (s : List ℕ) (x : ℕ) where
-  empty : holds_node s x ≡ false → [] ≡ raw_in s x
-  unfolding raw_in
-  empty e = sym (pick_f _ _ e)
-
-  module _ {m : ℕ} (slot : m ≡ slot_of s x) where
-    pub bytes_1 : m ≡ 0 → [] ≡ raw_in s x
-    bytes_1 h = empty (unfold holds_node in rw (no_slot s x slot h))
-
-    module _ (there : m ≡ 0 → ⊥) {at len : ℕ} (begins : at ≡ start m) (says : len ≡ read_at 4 s at) where
-      length_is : len ≡ length_at s x
-      unfolding length_at
-      length_is = rw (says, begins, (a_slot s x slot there).1)
-
-      pub node_within : at + slot_size ≤ length s
-      node_within = rw (begins, (a_slot s x slot there).1) (whole s x (a_slot s x slot there).0).within
-
-      pub bytes_2 : len < least_node → [] ≡ raw_in s x
-      bytes_2 h = empty (unfold holds_node in rw ((a_slot s x slot there).0, lt-leb least_node (length_at s x) (rw length_is at h)))
-
-      pub bytes_3 : least_node ≤ len → most_node < len → [] ≡ raw_in s x
-      bytes_3 l h = empty (unfold holds_node in rw ((a_slot s x slot there).0, le-leb least_node (length_at s x) (rw length_is at l), lt-leb (length_at s x) most_node (rw length_is at h)))
-
-      holds_lem : least_node ≤ len → len ≤ most_node → holds_node s x ≡ true
-      unfolding holds_node
-      holds_lem l h = rw ((a_slot s x slot there).0, le-leb least_node (length_at s x) (rw length_is at l), le-leb (length_at s x) most_node (rw length_is at h))
-
-      pub bytes_4 : least_node ≤ len → len ≤ most_node → take ((at + 4 + len) - (at + 4)) (drop (at + 4) s) ≡ raw_in s x
-      unfolding raw_in node_bytes part
-      bytes_4 l h =
-          let n : (at + 4 + len) - (at + 4) ≡ len = omega arith in
-          rw n (rw (begins, (a_slot s x slot there).1, length_is) (sym (pick_t _ _ (holds_lem l h))))
-
 -- ---- the child test of a depth
 
-module _ (d : ℕ) (c : Child) where
-  pub misfit_1 : d ≡ 0 → c.0 ≡ 0 → false ≡ misfits d c
-  misfit_1 e h = rw (e, eq-eqb c.0 0 h)
+not_or : (a b : Bool) → not (a || b) ≡ (not a && not b)
+not_or true b = refl
+not_or false b = refl
 
-  pub misfit_2 : d ≡ 0 → (c.0 ≡ 0 → ⊥) → true ≡ misfits d c
-  misfit_2 e h = rw (e, ne_eqb c.0 0 h)
+-- no child of those that `fits_depth` looks at is a misfit
+all_fit : (d : ℕ) (l : List Child) → list_all (λ (c : Child). not (misfits d c)) l ≡ children_fit d l
+unfolding children_fit
+all_fit d [] = refl
+all_fit d (c ∷ l) = rw (all_fit d l) (sym (not_or (misfits d c) (any_of (misfits d) l)))
 
-above_lem : (d : ℕ) (c : Child) → (d ≡ 0 → ⊥) → misfits d c ≡ eqb c.0 0
-above_lem zero c h = absurd (h refl)
-above_lem (suc d) c h = refl
+pub fits_all : (d n k : ℕ) (l : List Child) → length l ≤ 9 → k ≡ min (n + 1) 18446744073709551615
+    → list_all (λ (c : Child). not (misfits d c)) (take k l) ≡ fits_depth d n l
+unfolding fits_depth
+fits_all d n k l h e =
+    let m : min k (length l) ≡ min (n + 1) (length l) = omega (arith, e, h) in
+    all_fit d (take k l) ∙ ap (children_fit d) (sym (take_min k l) ∙ ap (λ (i : ℕ). take i l) m ∙ take_min (n + 1) l)
 
-module _ (d : ℕ) (c : Child) (h : d ≡ 0 → ⊥) where
-  pub misfit_3 : c.0 ≡ 0 → true ≡ misfits d c
-  misfit_3 e = sym (above_lem d c h ∙ eq-eqb c.0 0 e)
-
-  pub misfit_4 : (c.0 ≡ 0 → ⊥) → false ≡ misfits d c
-  misfit_4 e = sym (above_lem d c h ∙ ne_eqb c.0 0 e)
-
--- the loop of `fits_depth`: the children from i on decide
-unfoldable pub FitLeft : ℕ → ℕ → List Child → ℕ → Type 0
-FitLeft d n l i = AnyLeft (misfits d) (child_of 0) l (n + 1) i
-
-module _ (d n : ℕ) (l : List Child) where
-  fit_by : {a : Bool} → a ≡ any_first (misfits d) (n + 1) l → not a ≡ fits_depth d n l
-  unfolding any_first fits_depth children_fit
-  fit_by e = ap not e
-
-  pub fit_start : FitLeft d n l 0
-  unfolding FitLeft
-  fit_start = any_start (misfits d) (child_of 0) l (n + 1)
-
-  module _ (i : ℕ) (left : FitLeft d n l i) where
-    pub fit_1 : n < i → true ≡ fits_depth d n l
-    unfolding FitLeft
-    fit_1 h = fit_by (any_none (misfits d) (child_of 0) l (n + 1) i left (omega arith))
-
-    pub fit_3 : length l ≤ i → true ≡ fits_depth d n l
-    unfolding FitLeft
-    fit_3 h = fit_by (any_past (misfits d) (child_of 0) l (n + 1) i left h)
-
-    module _ {b : Bool} (more : i ≤ n) (there : i < length l) (test : b ≡ misfits d (get_or l i (child_of 0))) where
-      pub fit_2 : b ≡ true → false ≡ fits_depth d n l
-      unfolding FitLeft
-      fit_2 h = fit_by (any_here (misfits d) (child_of 0) l (n + 1) i left (omega arith) there (sym test ∙ h))
-
-      pub fit_turn : b ≡ false → FitLeft d n l (i + 1)
-      unfolding FitLeft
-      fit_turn h = any_turn (misfits d) (child_of 0) l (n + 1) i left (omega arith) there (sym test ∙ h)
-
--- a reading that is refused where a test of it fails
-module _ {A : Type 0} (f : A → Bool) {p a : A} {b : Bool} (z : A) (read : p ≡ a) (test : b ≡ f p) where
-  guard_1 : {q : A} → not b ≡ true → q ≡ z → q ≡ pick (f a) a z
-  guard_1 h e = e ∙ sym (pick_f _ _ (ap f (sym read) ∙ sym test ∙ not-true b h))
-
-  guard_2 : not b ≡ false → p ≡ pick (f a) a z
-  guard_2 h = read ∙ sym (pick_t _ _ (ap f (sym read) ∙ sym test ∙ not-false b h))
-
-module _ (s : List ℕ) (x d : ℕ) where
-  module _ {p : Reading} {b : Bool} (read : p ≡ reading_in s x) (test : b ≡ fits_depth d p.node.count p.node.children) where
-    pub node_at_1 : {q : Reading} → not b ≡ true → q ≡ reading_of [] → q ≡ reading_at d s x
-    unfolding reading_at
-    node_at_1 h e = guard_1 (λ (t : Reading). fits_depth d t.node.count t.node.children) (reading_of []) read test h e
-
-    pub node_at_2 : not b ≡ false → p ≡ reading_at d s x
-    unfolding reading_at
-    node_at_2 h = guard_2 (λ (t : Reading). fits_depth d t.node.count t.node.children) (reading_of []) read test h
-
--- ---- the header's root, and the free chain
-
-pub root_set : (s : List ℕ) (x d : ℕ) {t u : List ℕ} → t ≡ write_at 8 s 0 x → u ≡ write_at 4 t 8 d → u ≡ set_root s x d
-unfolding set_root
-root_set s x d p q = rw (q, p)
-
-module _ (s : List ℕ) {n : ℕ} {b : Bool} (first : n ≡ first_of s) (test : b ≡ is_slot s n) where
-  first_test : b ≡ is_slot s (first_of s)
-  first_test = rw first at test
-
-  pub take_1 : not b ≡ true → (0 ≡ (take_slot s).slot) × (s ≡ (take_slot s).store)
-  unfolding take_slot
-  take_1 h = let e : is_slot s (first_of s) ≡ false = sym first_test ∙ not-true b h in rw e (refl, refl)
-
-  pub take_2 : {at next : ℕ} {t : List ℕ} → not b ≡ false → at ≡ start n → next ≡ read_at 4 s (at + 4) → t ≡ write_at 4 s 16 next
-      → (n ≡ (take_slot s).slot) × (t ≡ (take_slot s).store)
-  unfolding take_slot
-  take_2 h p q w = let e : is_slot s (first_of s) ≡ true = sym first_test ∙ not-false b h in rw e (first, rw (w, q, p, first))
+-- ---- a slot to write to, and the free chain
 
 module _ (s : List ℕ) (x : ℕ) {b : Bool} (test : b ≡ is_slot s x) where
-  pub free_1 : not b ≡ true → s ≡ free_slot s x
-  unfolding free_slot
-  free_1 h = let e : is_slot s x ≡ false = sym test ∙ not-true b h in rw e
-
-  pub free_2 : {at next : ℕ} {t u v : List ℕ} → not b ≡ false → at ≡ start x → next ≡ first_of s → t ≡ clear_at s at slot_size → u ≡ write_at 4 t (at + 4) next → v ≡ write_at 4 u 16 x
-      → v ≡ free_slot s x
-  unfolding free_slot
-  free_2 h p q k l m =
-      let e : is_slot s x ≡ true = sym test ∙ not-false b h in
-      let c : clear_at s (start x) slot_size ≡ over s (start x) (zeros slot_size) = clear_at_in s (start x) slot_size (whole s x e).within in
-      rw (e, m, l, k, q, p, c)
-
   pub slot_whole : not b ≡ false → Whole s x
   slot_whole h = whole s x (sym test ∙ not-false b h)
 
 -- the loop of `has_free`: i links are followed, and the rest of the chain decides
 module _ (s : List ℕ) (n : ℕ) where
-  pub free_start : {x : ℕ} → x ≡ first_of s → has_free n s (first_of s) ≡ has_free (n - 0) s x
-  free_start e = let z : n - 0 ≡ n = omega arith in rw (z, e)
-
   module _ (i x : ℕ) {f : Bool} (left : f ≡ has_free (n - i) s x) where
-    pub free_end : n ≤ i → true ≡ f
-    unfolding has_free
-    free_end h = let z : n - i ≡ 0 = omega arith in sym (rw z at left)
-
     module _ {b : Bool} (more : i < n) (test : b ≡ is_slot s x) where
       one_more_lem : f ≡ pick (is_slot s x) (has_free (n - (i + 1)) s (read_at 4 s (start x + 4))) false
       unfolding has_free
       one_more_lem = let z : n - i ≡ suc (n - (i + 1)) = omega arith in rw z at left
 
-      pub free_none : not b ≡ true → false ≡ f
-      free_none h = sym (one_more_lem ∙ pick_f _ _ (sym test ∙ not-true b h))
+      pub free_none : b ≡ false → false ≡ f
+      free_none h = sym (one_more_lem ∙ pick_f _ _ (sym test ∙ h))
 
-      pub free_turn : {at next : ℕ} → not b ≡ false → at ≡ start x → next ≡ read_at 4 s (at + 4) → f ≡ has_free (n - (i + 1)) s next
-      free_turn h p q = one_more_lem ∙ pick_t _ _ (sym test ∙ not-false b h) ∙ rw (q, p)
+      pub free_turn : {at next : ℕ} → b ≡ true → at ≡ start x → next ≡ read_at 4 s (at + 4) → f ≡ has_free (n - (i + 1)) s next
+      free_turn h p q = one_more_lem ∙ pick_t _ _ (sym test ∙ h) ∙ rw (q, p)
 
 -- ---- writing a node
 
@@ -316,25 +134,12 @@ written_same : (n : struct.Node) (d e : List ℕ) → length d ≡ length e → 
 unfolding written_of
 written_same n d e h = rw h
 
-refused_left : (n : struct.Node) (d : List ℕ) (w : Written) → w ≡ written_of n d → written_length w ≡ 0 → (left_by w n d ≡ d) × (eqb (written_number w) 0 ≡ false)
-refused_left n d (written.Done len) e h = absurd (omega (arith, h, (when_done n d len (sym e)).len_is, length_encode (chain.first_of n) (steps_of n)))
-refused_left n d written.TooMany e h = (refl, refl)
-refused_left n d written.LongKey e h = (refl, refl)
-refused_left n d written.NoValue e h = (refl, refl)
-refused_left n d written.ShortDestination e h = (refl, refl)
-
-record Wrote (n : struct.Node) (d : List ℕ) (w : Written) : Type 0 where
-  pub number : eqb (written_number w) 0 ≡ true
-  pub len : written_length w ≡ length (encode (chain.first_of n) (steps_of n))
-  pub room : length (encode (chain.first_of n) (steps_of n)) ≤ length d
-  pub left : left_by w n d ≡ over d 0 (encode (chain.first_of n) (steps_of n))
-
-wrote : (n : struct.Node) (d : List ℕ) (w : Written) → w ≡ written_of n d → (written_length w ≡ 0 → ⊥) → Wrote n d w
-wrote n d (written.Done len) e h = let a = when_done n d len (sym e) in record { number = refl; len = a.len_is; room = a.room; left = refl }
-wrote n d written.TooMany e h = absurd (h refl)
-wrote n d written.LongKey e h = absurd (h refl)
-wrote n d written.NoValue e h = absurd (h refl)
-wrote n d written.ShortDestination e h = absurd (h refl)
+-- no refusal has the number 0
+refusal_counts : (e : WriteError) → eqb (write_error_number e) 0 ≡ false
+refusal_counts LongKey = refl
+refusal_counts NoValue = refl
+refusal_counts ShortDestination = refl
+refusal_counts TooMany = refl
 
 -- a part lent and given back
 pub given_back : (s : List ℕ) (from n : ℕ) (e : List ℕ) → length e ≡ n → take from s ++ (e ++ drop n (drop from s)) ≡ over s from e
@@ -363,7 +168,7 @@ module _ (s : List ℕ) (x : ℕ) (n : struct.Node) {b : Bool} (test : b ≡ is_
     lent = let e : (at + slot_size) - (at + 4) ≡ node_room = omega arith in rw e
 
     -- the part that is lent to `codec::write`, and what it holds then
-    module _ {w : Written} {d : List ℕ}
+    module _ {w : Result ℕ WriteError} {d : List ℕ}
         (answer : w ≡ written_of n (take ((at + slot_size) - (at + 4)) (drop (at + 4) s)))
         (left : d ≡ left_by (written_of n (take ((at + slot_size) - (at + 4)) (drop (at + 4) s))) n (take ((at + slot_size) - (at + 4)) (drop (at + 4) s)))
       where
@@ -374,7 +179,7 @@ module _ (s : List ℕ) (x : ℕ) (n : struct.Node) {b : Bool} (test : b ≡ is_
         answered_lem = rw lent at answer
 
         left_by_lem : d ≡ left_by w n (part s (at + 4) node_room)
-        left_by_lem = left ∙ ap (λ (y : Written). left_by y n (take ((at + slot_size) - (at + 4)) (drop (at + 4) s))) (sym answer) ∙ ap (left_by w n) lent
+        left_by_lem = left ∙ ap (λ (y : Result ℕ WriteError). left_by y n (take ((at + slot_size) - (at + 4)) (drop (at + 4) s))) (sym answer) ∙ ap (left_by w n) lent
 
         back : length d ≡ node_room → after ≡ over s (at + 4) d
         back h = let e : (at + slot_size) - (at + 4) ≡ node_room = omega arith in rw e (given_back s (at + 4) node_room d h)
@@ -382,39 +187,37 @@ module _ (s : List ℕ) (x : ℕ) (n : struct.Node) {b : Bool} (test : b ≡ is_
         same_answer : written_of n (zeros node_room) ≡ w
         same_answer = written_same n (zeros node_room) (part s (at + 4) node_room) (length_zeros node_room ∙ sym length_room) ∙ sym answered_lem
 
-        module _ {len : ℕ} (size : len ≡ written_length w) where
-          pub write_2 : len ≡ 0 → after ≡ written_in s x n
-          unfolding written_in
-          write_2 z =
-              let r = refused_left n (part s (at + 4) node_room) w answered_lem (sym size ∙ z) in
-              let k : d ≡ part s (at + 4) node_room = left_by_lem ∙ r.0 in
-              back (ap length k ∙ length_room) ∙ ap (over s (at + 4)) k ∙ over_part s (at + 4) node_room (omega (arith, node_room_lem)) ∙ sym (pick_f _ _ (rw same_answer r.1))
+        pub write_2 : {e : WriteError} → w ≡ Err e → after ≡ written_in s x n
+        unfolding written_in
+        write_2 {e} f =
+            let k : d ≡ part s (at + 4) node_room = left_by_lem ∙ ap (λ (y : Result ℕ WriteError). left_by y n (part s (at + 4) node_room)) f in
+            back (ap length k ∙ length_room) ∙ ap (over s (at + 4)) k ∙ over_part s (at + 4) node_room (omega (arith, node_room_lem)) ∙ sym (pick_f _ _ (rw (same_answer, f) (refusal_counts e)))
 
-          module _ (some : len ≡ 0 → ⊥) where
-            done : Wrote n (part s (at + 4) node_room) w
-            done = wrote n (part s (at + 4) node_room) w answered_lem (λ e. some (size ∙ e))
+        module _ {len : ℕ} (f : w ≡ Ok len) where
+          done : Accepted n (part s (at + 4) node_room) len
+          done = when_done n (part s (at + 4) node_room) len (sym answered_lem ∙ f)
 
-            pub node_small : len ≤ node_room
-            node_small = omega (arith, size, done.len, done.room, length_room)
+          pub node_small : len ≤ node_room
+          node_small = omega (arith, done.len_is, done.room, length_room)
 
-            after_is : after ≡ over s (at + 4) (encode (chain.first_of n) (steps_of n))
-            after_is =
-                let c : List ℕ = encode (chain.first_of n) (steps_of n) in
-                let e : d ≡ over (part s (at + 4) node_room) 0 c = left_by_lem ∙ done.left in
-                let l : length d ≡ node_room = ap length e ∙ length_over (part s (at + 4) node_room) 0 c (omega (arith, done.room)) ∙ length_room in
-                let z : (at + 4) + 0 ≡ at + 4 = omega arith in
-                back l ∙ ap (over s (at + 4)) e ∙ sym (rw z at (over_in s (at + 4) 0 node_room c (omega (arith, node_room_lem)) (omega (arith, done.room, length_room))))
+          after_is : after ≡ over s (at + 4) (encode (chain.first_of n) (steps_of n))
+          after_is =
+              let c : List ℕ = encode (chain.first_of n) (steps_of n) in
+              let e : d ≡ over (part s (at + 4) node_room) 0 c = left_by_lem ∙ ap (λ (y : Result ℕ WriteError). left_by y n (part s (at + 4) node_room)) f in
+              let l : length d ≡ node_room = ap length e ∙ length_over (part s (at + 4) node_room) 0 c (omega (arith, done.room)) ∙ length_room in
+              let z : (at + 4) + 0 ≡ at + 4 = omega arith in
+              back l ∙ ap (over s (at + 4)) e ∙ sym (rw z at (over_in s (at + 4) 0 node_room c (omega (arith, node_room_lem)) (omega (arith, done.room, length_room))))
 
-            pub write_3 : {u v : List ℕ} → u ≡ write_at 4 after at len → v ≡ clear_at u ((at + 4) + len) (node_room - len) → v ≡ written_in s x n
-            unfolding written_in write_node
-            write_3 p q =
-                let c : List ℕ = encode (chain.first_of n) (steps_of n) in
-                let l : len ≡ length c = size ∙ done.len in
-                let t : List ℕ = write_at 4 (over s (at + 4) c) at len in
-                let k : length t ≡ length s = length_write_at 4 (over s (at + 4) c) at len ∙ length_over s (at + 4) c (omega (arith, l, node_room_lem, node_small)) in
-                q ∙ ap (λ (y : List ℕ). clear_at y ((at + 4) + len) (node_room - len)) (p ∙ ap (λ (y : List ℕ). write_at 4 y at len) after_is)
-                ∙ clear_at_in t ((at + 4) + len) (node_room - len) (omega (arith, k, node_room_lem, node_small))
-                ∙ rw (l, begins) (sym (pick_t _ _ (rw same_answer done.number) ∙ rw there))
+          pub write_3 : {u v : List ℕ} → u ≡ write_at 4 after at len → v ≡ clear_at u ((at + 4) + len) (node_room - len) → v ≡ written_in s x n
+          unfolding written_in write_node
+          write_3 p q =
+              let c : List ℕ = encode (chain.first_of n) (steps_of n) in
+              let l : len ≡ length c = done.len_is in
+              let t : List ℕ = write_at 4 (over s (at + 4) c) at len in
+              let k : length t ≡ length s = length_write_at 4 (over s (at + 4) c) at len ∙ length_over s (at + 4) c (omega (arith, l, node_room_lem, node_small)) in
+              q ∙ ap (λ (y : List ℕ). clear_at y ((at + 4) + len) (node_room - len)) (p ∙ ap (λ (y : List ℕ). write_at 4 y at len) after_is)
+              ∙ clear_at_in t ((at + 4) + len) (node_room - len) (omega (arith, k, node_room_lem, node_small))
+              ∙ rw (l, begins) (sym (pick_t _ _ (rw (same_answer, f)) ∙ rw there))
 
 -- ---- formatting
 
@@ -454,9 +257,6 @@ module _ (n : ℕ) {f : List ℕ} (t : List ℕ) (i : ℕ) (left : f ≡ linked 
       let z : n - i ≡ suc (n - (i + 1)) = omega arith in
       rw z at left ∙ unfold linked in rw (q, p)
 
-  pub link_end : n ≤ i → t ≡ f
-  link_end h = let z : n - i ≡ 0 = omega arith in sym (rw z at left ∙ unfold linked in refl)
-
 header_made : (n : ℕ) → write_at 4 (write_at 4 (zeros (header_size + slot_size * n)) 12 n) 16 1 ≡ header 0 0 n 1 ++ zeros (slot_size * n)
 header_made n =
     let m : ℕ = slot_size * n in
@@ -482,24 +282,21 @@ cleared s =
     ∙ over_seam [] s (zeros (length s)) [] 0 refl (sym (length_zeros (length s))) ∙ append-nil (zeros (length s))
 
 module _ (s : List ℕ) (n : ℕ) {b : Bool} (size : b ≡ has_size (length s) n) where
-  pub format_1 : not b ≡ true → Formats s n Refused s
-  format_1 h = let e : has_size (length s) n ≡ false = sym size ∙ not-true b h in record { number = sym (pick_f 0 1 e); bytes = sym (pick_f (fresh n) s e) }
-
-  pub format_2 : {t u v w : List ℕ} → not b ≡ false → t ≡ clear_at s 0 (length s) → u ≡ write_at 4 t 12 n → v ≡ write_at 4 u 16 1 → w ≡ linked v 1 (n - 1) → Formats s n Done w
-  format_2 {w = w} h p q k l =
-      let e : has_size (length s) n ≡ true = sym size ∙ not-false b h in
+  pub formatted : {t u v w : List ℕ} → b ≡ true → t ≡ clear_at s 0 (length s) → u ≡ write_at 4 t 12 n → v ≡ write_at 4 u 16 1 → w ≡ linked v 1 (n - 1) → Formats s n (Ok tt) w
+  formatted {w = w} h p q k l =
+      let e : has_size (length s) n ≡ true = sym size ∙ h in
       let z = sized_lem (length s) n e in
       let m : w ≡ fresh n = rw (l, k, q, p, cleared s, z.size, header_made n) (made_lem n z.least) in
       record { number = sym (pick_t 0 1 e); bytes = m ∙ sym (pick_t (fresh n) s e) }
 
 -- two results that the contract of `format` allows are the same
-number_tells : (r q : Formatted) → format_number r ≡ format_number q → r ≡ q
-number_tells Done Done e = refl
-number_tells Done Refused e = absurd (omega arith)
-number_tells Refused Done e = absurd (omega arith)
-number_tells Refused Refused e = refl
+number_tells : (r q : Result (Unit {0}) FormatError) → format_number r ≡ format_number q → r ≡ q
+number_tells (Ok x) (Ok y) e = refl
+number_tells (Ok x) (Err NotStore) e = absurd (omega arith)
+number_tells (Err NotStore) (Ok y) e = absurd (omega arith)
+number_tells (Err NotStore) (Err NotStore) e = refl
 
-pub format_unique : (s : List ℕ) (n : ℕ) (r q : Formatted) (t u : List ℕ) → Formats s n r t → Formats s n q u → (r ≡ q) × (t ≡ u)
+pub format_unique : (s : List ℕ) (n : ℕ) (r q : Result (Unit {0}) FormatError) (t u : List ℕ) → Formats s n r t → Formats s n q u → (r ≡ q) × (t ≡ u)
 format_unique s n r q t u a b = (number_tells r q (a.number ∙ sym b.number), a.bytes ∙ sym b.bytes)
 
 -- ---- what is read, as a chain
@@ -575,10 +372,6 @@ module _ (s : List ℕ) (x : ℕ) where
   unfolding places_in
   same_places e = ap places_of (sym (raw_in_lem e))
 
-  pub places_are : {b : List ℕ} {p : Places} → b ≡ raw_in s x → p ≡ places_of (standard_of b) → p ≡ places_in s x
-  unfolding places_in bytes_in
-  places_are e q = q ∙ ap (λ (b : List ℕ). places_of (standard_of b)) e
-
   pub reading_is : {b : List ℕ} {r : Reading} → b ≡ raw_in s x → r ≡ reading_of (standard_of b) → r ≡ reading_in s x
   unfolding reading_in bytes_in
   reading_is e q = q ∙ ap (λ (b : List ℕ). reading_of (standard_of b)) e
@@ -587,10 +380,6 @@ module _ (s : List ℕ) (x : ℕ) where
   pub node_in_lem : (reading_in s x).node ≡ node_of (first_in s x) (rest_in s x)
   unfolding reading_in reading_of
   node_in_lem = refl
-
-  pub places_in_lem : places_in s x ≡ layout.layout (scan (bytes_in s x))
-  unfolding places_in places_of
-  places_in_lem = refl
 
   -- the chain can be written
   pub writable_in : Bytes s → Writable (first_in s x) (rest_in s x)
@@ -652,11 +441,22 @@ module _ (s : List ℕ) (x : ℕ) where
       let e = (both_true (is_slot s x) (leb least_node (length_at s x) && leb (length_at s x) most_node) (accepted_holds h)).0 in
       (e, pick_t _ _ e)
 
--- ---- the child test, on chains
+  -- so `slot_of` has a slot to answer
+  pub accepted_some : {o : std.Option Slot} → is_accepted (reading_in s x).ending ≡ true → o ≡ some_slot (slot_of s x) → o ≡ None → ⊥
+  unfolding is_slot slot_of some_slot pick
+  accepted_some h e f = let a = (accepted_slot h).0 in grind arith
 
-not_or : (a b : Bool) → not (a || b) ≡ (not a && not b)
-not_or true b = refl
-not_or false b = refl
+-- what `slot_of` and `take_slot` answer: a slot's number, or none for 0
+module _ {n : ℕ} {o : std.Option Slot} (e : o ≡ some_slot n) where
+  pub some_number : {v : Slot} → o ≡ Some v → (v.0 ≡ n) × (v.0 ≡ 0 → ⊥)
+  unfolding some_slot pick
+  some_number f = grind arith
+
+  pub none_number : o ≡ None → n ≡ 0
+  unfolding some_slot pick
+  none_number f = grind arith
+
+-- ---- the child test, on chains
 
 fit_cons : (d : ℕ) (c : Child) (l : List Child) → children_fit d (c ∷ l) ≡ (not (misfits d c) && children_fit d l)
 unfolding children_fit
@@ -774,5 +574,5 @@ pub written_chain : (s : List ℕ) (x c : ℕ) (r : List Step) → Writable c r 
 unfolding written_in
 written_chain s x c r w =
     let d : List ℕ = zeros node_room in
-    let e : written_of (node_of c r) d ≡ written.Done (length (encode c r)) = writes_chain c r d w (omega (arith, standard_most c r w, length_zeros node_room)) in
-    pick_t _ _ (ap (λ (a : Written). eqb (written_number a) 0) e) ∙ rw (first_node c r, steps_node c r w.rest)
+    let e : written_of (node_of c r) d ≡ Ok (length (encode c r)) = writes_chain c r d w (omega (arith, standard_most c r w, length_zeros node_room)) in
+    pick_t _ _ (ap (λ (a : Result ℕ WriteError). eqb (written_number a) 0) e) ∙ rw (first_node c r, steps_node c r w.rest)

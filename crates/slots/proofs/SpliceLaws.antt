@@ -4,13 +4,14 @@
 use mathlib.Core.Path.{◌≡◌, refl, sym, ap, ◌∙◌}
 use mathlib.Core.List.{List, ◌∷◌, ◌++◌}
 use mathlib.Core.Bool.{Bool, true, false, ◌&&◌, not}
-use Prim.Native.Nat.{ℕ, ◌+◌, ◌-◌, ◌≤◌, ◌<◌}
+use Prim.Native.Nat.{ℕ, ◌+◌, ◌-◌, ◌≤◌}
 use lib.ListN.{length, take, drop, length-append, length-drop}
 use lib.Seq.{take-take, length-take-le}
 use lib.Dec.{leb, ltb, eqb}
 use native.Mathlib.Omega.{arith}
-use borrow.Author.Tests.{not-true, not-false, leb-true, ltb-false, lt-ltb, le-ltb, eq-eqb, ne_eqb}
-use Rattle.word.specs.Pick.{pick, pick_t, pick_f, by_test}
+use borrow.Author.Tests.{not-true, not-false, leb-true, ltb-false, le-ltb, ne_eqb}
+use Rattle.std.specs.Prelude.{Option, Some, None}
+use Rattle.word.specs.Pick.{pick_t, pick_f, by_test}
 use Rattle.word.specs.Part.{part, over}
 use Rattle.word.specs.Num.{le, un, zeros, Bytes}
 use Rattle.word.specs.At.{fits_in, read_at, write_at, clear_at}
@@ -20,7 +21,7 @@ use Rattle.word.proofs.AtLaws.{fits_in_lem, fits_true, read_at_in, write_at_in, 
 use Rattle.tree.specs.Map.{Sep}
 use Rattle.node.specs.Chain.{Step, longest_key, Fit, Writable}
 use Rattle.codec.specs.Codec.{encode}
-use Rattle.codec.specs.Splice.{spliced, splice_at, splice_width, Spliced, splice_in}
+use Rattle.codec.specs.Splice.{spliced, splice_at, splice_width, Spliced, new_length, splice_in}
 use Rattle.codec.proofs.EncodeLaws.{length_sep, scan_finds}
 use Rattle.codec.proofs.Theorems.{standard_most, flagged_standard}
 use Rattle.codec.proofs.SpliceLaws.{splice_encode, splice_within, splice_place, revalue_within, revalue_encode}
@@ -58,6 +59,12 @@ module _ (d : List ℕ) (n p : ℕ) (e : Sep ℕ) (b : ℕ) where
 
 -- ---- each way through `insert_bytes`
 
+none_made : (g : Spliced) → new_length g ≡ None → eqb g.len 0 ≡ true
+none_made g = by_test (λ (o : Option ℕ). o ≡ None → eqb g.len 0 ≡ true) (eqb g.len 0) (λ t z. t) (λ t z. cc)
+
+some_made : (g : Spliced) (len : ℕ) → new_length g ≡ Some len → (len ≡ g.len) × (eqb g.len 0 ≡ false)
+some_made g len = by_test (λ (o : Option ℕ). o ≡ Some len → (len ≡ g.len) × (eqb g.len 0 ≡ false)) (eqb g.len 0) (λ t z. cc) (λ t z. (cc, t))
+
 module _ (s : List ℕ) (x p : ℕ) (e : Sep ℕ) (b : ℕ) {f : Bool} (test : f ≡ is_slot s x) where
   pub insert_bytes_1 : not f ≡ true → s ≡ inserted_bytes s x p e b
   unfolding inserted_bytes
@@ -85,15 +92,15 @@ module _ (s : List ℕ) (x p : ℕ) (e : Sep ℕ) (b : ℕ) {f : Bool} (test : f
     unfolding inserted_bytes length_at
     inserted_is = pick_t _ _ there ∙ rw (says, begins)
 
-    module _ {len : ℕ} {d : List ℕ}
-        (answer : len ≡ (splice_in (take ((at + slot_size) - (at + 4)) (drop (at + 4) s)) n p e b).len)
+    module _ {r : Option ℕ} {d : List ℕ}
+        (answer : r ≡ new_length (splice_in (take ((at + slot_size) - (at + 4)) (drop (at + 4) s)) n p e b))
         (left : d ≡ (splice_in (take ((at + slot_size) - (at + 4)) (drop (at + 4) s)) n p e b).bytes)
       where
         abbrev pub after : List ℕ
         after = take (at + 4) s ++ (d ++ drop ((at + slot_size) - (at + 4)) (drop (at + 4) s))
 
-        len_is : len ≡ made.len
-        len_is = rw room_is at answer
+        made_length : r ≡ new_length made
+        made_length = rw room_is at answer
 
         bytes_is : d ≡ made.bytes
         bytes_is = rw room_is at left
@@ -106,41 +113,21 @@ module _ (s : List ℕ) (x p : ℕ) (e : Sep ℕ) (b : ℕ) {f : Bool} (test : f
             let k = splice_keeps (part s (at + 4) node_room) n p e b in
             back (ap length bytes_is ∙ k.1 ∙ length_room) ∙ ap (over s (at + 4)) bytes_is
 
-        pub insert_bytes_2 : len ≡ 0 → after ≡ inserted_bytes s x p e b
-        insert_bytes_2 z = after_is ∙ sym (inserted_is ∙ pick_t _ _ (eq-eqb made.len 0 (sym len_is ∙ z)))
+        pub insert_bytes_2 : r ≡ None → after ≡ inserted_bytes s x p e b
+        insert_bytes_2 z = after_is ∙ sym (inserted_is ∙ pick_t _ _ (none_made made (sym made_length ∙ z)))
 
-        pub inserted_small : len ≤ node_room
-        inserted_small = omega (arith, len_is, (splice_keeps (part s (at + 4) node_room) n p e b).0, length_room)
+        module _ {len : ℕ} (got : r ≡ Some len) where
+          len_is : (len ≡ made.len) × (eqb made.len 0 ≡ false)
+          len_is = some_made made len (sym made_length ∙ got)
 
-        pub insert_bytes_3 : (len ≡ 0 → ⊥) → {u v : List ℕ} → u ≡ write_at 4 after at len → v ≡ clear_at u (at + 4 + len) (node_room - len) → v ≡ inserted_bytes s x p e b
-        insert_bytes_3 z i j =
-            j ∙ ap (λ (u : List ℕ). clear_at u (at + 4 + len) (node_room - len)) (i ∙ ap (λ (t : List ℕ). write_at 4 t at len) after_is)
-            ∙ ap (λ (m : ℕ). clear_at (write_at 4 (over s (at + 4) made.bytes) at m) (at + 4 + m) (node_room - m)) len_is
-            ∙ sym (inserted_is ∙ pick_f _ _ (ne_eqb made.len 0 (λ y. z (len_is ∙ y))))
+          pub inserted_small : len ≤ node_room
+          inserted_small = omega (arith, len_is.0, (splice_keeps (part s (at + 4) node_room) n p e b).0, length_room)
 
--- ---- each way through `write_value`
-
-module _ (s : List ℕ) (x p v : ℕ) {f : Bool} (test : f ≡ is_slot s x) where
-  pub write_value_1 : not f ≡ true → s ≡ revalued_bytes s x p v
-  unfolding revalued_bytes
-  write_value_1 h = sym (pick_f _ _ (sym test ∙ not-true f h))
-
-  module _ (h : not f ≡ false) {at n : ℕ} (begins : at ≡ start x) (says : n ≡ read_at 4 s at) where
-    revalued_is : revalued_bytes s x p v ≡ pick (ltb node_room n) s (pick (fits_in n p 8) (clear_at (write_at 8 s (at + 4 + p) v) (at + 4 + n) (node_room - n)) s)
-    unfolding revalued_bytes length_at
-    revalued_is = pick_t _ _ (sym test ∙ not-false f h) ∙ rw (says, begins)
-
-    pub write_value_2 : node_room < n → s ≡ revalued_bytes s x p v
-    write_value_2 l = sym (revalued_is ∙ pick_t _ _ (lt-ltb node_room n l))
-
-    module _ (l : n ≤ node_room) {g : Bool} (fits : g ≡ fits_in n p 8) where
-      pub write_value_3 : not g ≡ true → s ≡ revalued_bytes s x p v
-      write_value_3 k = sym (revalued_is ∙ pick_f _ _ (le-ltb node_room n l) ∙ pick_f _ _ (sym fits ∙ not-true g k))
-
-      pub write_value_4 : not g ≡ false → {u w : List ℕ} → u ≡ write_at 8 s (at + 4 + p) v → w ≡ clear_at u (at + 4 + n) (node_room - n) → w ≡ revalued_bytes s x p v
-      write_value_4 k i j =
-          j ∙ ap (λ (t : List ℕ). clear_at t (at + 4 + n) (node_room - n)) i
-          ∙ sym (revalued_is ∙ pick_f _ _ (le-ltb node_room n l) ∙ pick_t _ _ (sym fits ∙ not-false g k))
+          pub insert_bytes_3 : {u v : List ℕ} → u ≡ write_at 4 after at len → v ≡ clear_at u (at + 4 + len) (node_room - len) → v ≡ inserted_bytes s x p e b
+          insert_bytes_3 i j =
+              j ∙ ap (λ (u : List ℕ). clear_at u (at + 4 + len) (node_room - len)) (i ∙ ap (λ (t : List ℕ). write_at 4 t at len) after_is)
+              ∙ ap (λ (m : ℕ). clear_at (write_at 4 (over s (at + 4) made.bytes) at m) (at + 4 + m) (node_room - m)) len_is.0
+              ∙ sym (inserted_is ∙ pick_f _ _ len_is.1)
 
 -- ---- the longer node is written
 

@@ -1,13 +1,16 @@
 -- What the functions of this crate answer and leave, with a node's contents as the code's structs, and 01's numbers for
 -- formatting. Assumes nothing.
-use Rattle.std.specs.Prelude.{◌≡◌, List, [], ◌∷◌, map, Bool, true, false, ◌&&◌, not, ℕ, zero, suc, ◌+◌, ◌*◌, length, take, leb, eqb}
+use Rattle.std.specs.Prelude.{◌≡◌, List, [], ◌∷◌, map, Bool, true, false, ◌&&◌, not, ℕ, zero, suc, ◌+◌, ◌*◌, length, take, leb, eqb, Some, None, Result}
+use Rattle.std.specs.Prelude as std
 use Rattle.std.proofs.Math.Option.{Option, none, some}
+use Rattle.refusal.specs.Number.{answer_number}
 use Rattle.word.specs.Pick.{pick}
 use Rattle.word.specs.Num.{zeros}
 use Rattle.word.specs.At.{read_at, write_at}
 use Rattle.tree.specs.Tree.{Node}
 use Rattle.node.specs.declared.Child.{Child}
 use Rattle.node.specs.declared.Node as struct
+use Rattle.node.specs.declared.Slot.{Slot}
 use Rattle.codec.specs.declared.Places.{Places}
 use Rattle.codec.specs.declared.Reading.{Reading}
 use Rattle.node.specs.Chain as chain
@@ -15,8 +18,8 @@ use Rattle.node.specs.Chain.{Step, child_of, steps_of}
 use Rattle.codec.specs.Codec.{scan, step_of}
 use Rattle.codec.specs.Strict.{standard_of}
 use Rattle.codec.specs.Layout.{places_of, reading_of, any_of, written_of, written_number}
-use Rattle.slots.specs.declared.Formatted.{Formatted}
-use Rattle.slots.specs.declared.Formatted.TheVariants.{Done, Refused}
+use Rattle.slots.specs.declared.FormatError.{FormatError}
+use Rattle.slots.specs.declared.FormatError.TheVariants.{NotStore}
 use Rattle.slots.specs.Limits.{header_size, slot_size, most_slots}
 use Rattle.slots.specs.Layout.{start}
 use Rattle.slots.specs.Mirror.{is_slot, holds_node, node_bytes, read_node, write_node}
@@ -29,6 +32,10 @@ has_size len n = leb 1 n && (leb n most_slots && eqb len (header_size + slot_siz
 -- the slot that a child names, 0 where it names none
 unfoldable pub slot_of : List ℕ → ℕ → ℕ
 slot_of s x = pick (is_slot s x) x 0
+
+-- the slot of a number, none for 0
+unfoldable pub some_slot : ℕ → std.Option Slot
+some_slot n = pick (eqb n 0) None (Some (record { 0 = n }))
 
 -- ---- reading
 
@@ -113,13 +120,16 @@ linked s i (suc k) = linked (write_at 4 s (start i + 4) (i + 1)) (i + 1) k
 
 -- ---- formatting
 
--- "0 | done", "1 | buffer isn't 24+2,560×count bytes, count outside 1..65,535"
-abbrev pub format_number : Formatted → ℕ
-format_number Done = 0
-format_number Refused = 1
+-- "1 | buffer isn't 24+2,560×count bytes, count outside 1..65,535"
+abbrev pub format_error_number : FormatError → ℕ
+format_error_number NotStore = 1
+
+-- "0 | done", or the refusal's
+abbrev pub format_number : Result (Unit {0}) FormatError → ℕ
+format_number = answer_number format_error_number
 
 -- "Formatting takes a count, ignores the old bytes (refusal 1 for size or count only) and chains 1, 2, ... in order."; a
 -- refusal leaves "all unchanged"
-pub record Formats (s : List ℕ) (n : ℕ) (r : Formatted) (t : List ℕ) : Type 0 where
+pub record Formats (s : List ℕ) (n : ℕ) (r : Result (Unit {0}) FormatError) (t : List ℕ) : Type 0 where
   pub number : format_number r ≡ pick (has_size (length s) n) 0 1
   pub bytes : t ≡ pick (has_size (length s) n) (fresh n) s

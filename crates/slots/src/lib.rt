@@ -6,12 +6,13 @@ ghost use Rattle.std.specs.Prelude.{◌≡◌, ◌-◌, length};
 ghost use Rattle.codec.specs.Layout.{places_of};
 ghost use Rattle.slots.specs.Layout.{start, root_of, depth_of, count_of, first_of, is_store};
 ghost use Rattle.slots.specs.Mirror.{is_slot, take_slot, free_slot, set_root};
-ghost use Rattle.slots.specs.Code.{has_size, slot_of, raw_in, places_in, misfits, fits_depth, reading_at, written_in, has_free, linked, format_number, Formats};
+ghost use Rattle.slots.specs.Code.{has_size, slot_of, some_slot, raw_in, places_in, misfits, fits_depth, reading_at, written_in, has_free, linked, format_error_number, Formats};
 ghost use Rattle.slots.specs.Search.{SawAt};
 ghost use Rattle.slots.specs.Splice.{inserted_bytes, revalued_bytes};
 
 use codec::{Places, Reading};
 use node::{Child, Node, Slot, Value};
+use refusal::Refusal;
 use search::{Sight, Turn};
 
 // 01's store: 24 header bytes, then slots 1 to count of 2,560 bytes each.
@@ -27,7 +28,7 @@ pub const LEAST_NODE: usize = 8;
 pub const MOST_NODE: usize = 2480;
 
 // How many bytes of a slot stand behind its node's length.
-const NODE_ROOM: usize = 2556;
+pub const NODE_ROOM: usize = 2556;
 
 // Where the header's fields stand.
 const ROOT_AT: usize = 0;
@@ -40,21 +41,17 @@ const FIRST_FREE_AT: usize = 16;
 
 const ZEROS_AT: usize = 20;
 
-#[derive(Clone, Copy)]
-pub enum Formatted {
-    Done,
-    Refused,
+// Why formatting is refused, with 01's number.
+#[derive(Clone, Copy, PartialEq, Eq)]
+pub enum FormatError {
+    NotStore = 1,
 }
 
-impl Formatted {
-    // 01's number.
-    pub fn number(self) -> u32
-        ensures { result ≡ format_number self }
-    {
-        match self {
-            Formatted::Done => 0,
-            Formatted::Refused => 1,
-        }
+impl Refusal for FormatError {
+    ghost number_of = { format_error_number };
+
+    fn number(self) -> u32 {
+        self as u32
     }
 }
 
@@ -62,23 +59,14 @@ impl Formatted {
 fn has_size(len: usize, count: u32) -> bool
     ensures { result ≡ has_size len count }
 {
-    if count < 1 {
-        return false;
-    }
-    if MOST_SLOTS < count {
-        return false;
-    }
-    len == HEADER_SIZE + SLOT_SIZE * (count as usize)
+    (1..=MOST_SLOTS).contains(&count) && len == HEADER_SIZE + SLOT_SIZE * (count as usize)
 }
 
 // The one test for refusal 1.
 pub fn is_store(store: &[u8]) -> bool
     ensures { result ≡ is_store store.now }
 {
-    if !has_size(store.len(), count(store)) {
-        return false;
-    }
-    word::is_zero(store, ZEROS_AT, 4)
+    has_size(store.len(), count(store)) && word::is_zero(store, ZEROS_AT, 4)
 }
 
 // ---- the header
@@ -101,6 +89,8 @@ pub fn count(store: &[u8]) -> u32
     word::read_u32(store, COUNT_AT)
 }
 
+// A number and no Slot: who takes it writes it on as it stands or goes on to a next one in the same bytes, so a Slot would be
+// opened again at each use.
 pub fn first_free(store: &[u8]) -> u32
     ensures { result ≡ first_of store.now }
 {
@@ -120,54 +110,37 @@ pub fn set_root(store: &mut [u8], child: Child, depth: u32)
 pub fn start_of(slot: Slot) -> usize
     ensures { result ≡ start slot.0 }
 {
-    let number = slot.0 as usize;
-    if number < 1 {
-        HEADER_SIZE
-    } else {
-        HEADER_SIZE + SLOT_SIZE * (number - 1)
-    }
+    HEADER_SIZE + SLOT_SIZE * (slot.0 as usize).saturating_sub(1)
 }
 
-// The slot that a child names; slot 0, which is none, where it names no whole slot of the store. The one way from a child
-// to a slot.
-pub fn slot_of(store: &[u8], child: Child) -> Slot
-    ensures { result.0 ≡ slot_of store.now child.0 }
+// The slot that a child names; none where it names no whole slot of the store. The one way from a child to a slot.
+pub fn slot_of(store: &[u8], child: Child) -> Option<Slot>
+    ensures { result ≡ some_slot (slot_of store.now child.0) }
 {
     let number = child.0;
-    let most = count(store);
-    if number < 1 {
-        return Slot(0);
+    let most = count(store) as u64;
+    if number < 1 || most < number || store.len() < HEADER_SIZE + SLOT_SIZE * (number as usize) {
+        return None;
     }
-    if (most as u64) < number {
-        return Slot(0);
-    }
-    if store.len() < HEADER_SIZE + SLOT_SIZE * (number as usize) {
-        return Slot(0);
-    }
-    Slot(number as u32)
+    Some(Slot(number as u32))
 }
 
 pub fn is_slot(store: &[u8], number: u64) -> bool
     ensures { result ≡ is_slot store.now number }
 {
-    let slot = slot_of(store, Child(number));
-    if slot.0 == 0 { false } else { true }
+    slot_of(store, Child(number)).is_some()
 }
 
 // The bytes of the node in a slot; empty where there is no such slot or it has no node's length.
 pub fn node_bytes(store: &[u8], child: Child) -> &[u8]
     ensures { result.now ≡ raw_in store.now child.0 }
 {
-    let slot = slot_of(store, child);
-    if slot.0 == 0 {
+    let Some(slot) = slot_of(store, child) else {
         return &store[0..0];
-    }
+    };
     let at = start_of(slot);
     let len = word::read_u32(store, at) as usize;
-    if len < LEAST_NODE {
-        return &store[0..0];
-    }
-    if MOST_NODE < len {
+    if !(LEAST_NODE..=MOST_NODE).contains(&len) {
         return &store[0..0];
     }
     let from = at + 4;
@@ -191,17 +164,12 @@ pub fn read_places(store: &[u8], child: Child) -> Places
 
 // ---- the child test of a depth
 
-// Whether a child is there where none may be, or missing where one must be.
+// Whether a child is there where none may be, or missing where one must be. It stands here again since search's, by leaf, is
+// search's own; law misfits_same in proofs/SearchLaws ties the two.
 fn is_misfit(child: Child, depth: u32) -> bool
     ensures { result ≡ misfits depth child }
 {
-    if depth == 0 {
-        if child.0 == 0 {
-            return false;
-        }
-        return true;
-    }
-    if child.0 == 0 { true } else { false }
+    (depth == 0) != (child.0 == 0)
 }
 
 // Whether a node of so many separators has the children that a node at this depth has: none at 0, one more than
@@ -209,18 +177,10 @@ fn is_misfit(child: Child, depth: u32) -> bool
 pub fn fits_depth(children: [Child; 9], count: usize, depth: u32) -> bool
     ensures { result ≡ fits_depth depth count children }
 {
-    let mut i: usize = 0;
-    while i < 9 {
-        if count < i {
-            return true;
-        }
-        let child = children[i];
-        if is_misfit(child, depth) {
-            return false;
-        }
-        i += 1;
-    }
-    true
+    children
+        .iter()
+        .take(count.saturating_add(1))
+        .all(|child| !is_misfit(*child, depth))
 }
 
 // The node of a child, refused also where its children don't fit the depth.
@@ -241,10 +201,9 @@ pub fn read_node_at(store: &[u8], child: Child, depth: u32) -> Reading
 pub fn search_at(store: &[u8], child: Child, depth: u32, key: &[u8], turn: Turn) -> Sight
     ensures { SawAt turn depth store.now child.0 key.now result }
 {
-    let slot = slot_of(store, child);
-    if slot.0 == 0 {
+    let Some(slot) = slot_of(store, child) else {
         return Sight::start(false);
-    }
+    };
     let at = start_of(slot);
     let len = word::read_u32(store, at) as usize;
     if len < LEAST_NODE {
@@ -270,11 +229,10 @@ pub fn write_node(store: &mut [u8], slot: Slot, node: Node)
     let at = start_of(slot);
     let from = at + 4;
     let to = at + SLOT_SIZE;
-    let written = codec::write(node, &mut store[from..to]);
-    let len = written.length();
-    if len == 0 {
+    let Ok(len) = codec::write(node, &mut store[from..to]) else {
         return;
-    }
+    };
+    // these two lines are those of `insert_bytes` too: a function for them would be the two and a `requires` on both numbers
     word::write_u32(store, at, len as u32);
     word::clear(store, from + len, NODE_ROOM - len);
 }
@@ -299,10 +257,9 @@ pub fn insert_bytes(
     let from = at + 4;
     let to = at + SLOT_SIZE;
     let old = word::read_u32(store, at) as usize;
-    let len = codec::splice(&mut store[from..to], old, place, key, value, child);
-    if len == 0 {
+    let Some(len) = codec::splice(&mut store[from..to], old, place, key, value, child) else {
         return;
-    }
+    };
     word::write_u32(store, at, len as u32);
     word::clear(store, from + len, NODE_ROOM - len);
 }
@@ -318,28 +275,26 @@ pub fn write_value(store: &mut [u8], slot: Slot, place: usize, value: Value)
     let at = start_of(slot);
     let from = at + 4;
     let len = word::read_u32(store, at) as usize;
-    if NODE_ROOM < len {
-        return;
-    }
-    if !word::fits(len, place, 8) {
+    if NODE_ROOM < len || !word::fits(len, place, 8) {
         return;
     }
     word::write_u64(store, from + place, value.0);
+    // one line in common with the two writers above: a function for it would be this line and a `requires` on both numbers
     word::clear(store, from + len, NODE_ROOM - len);
 }
 
-// The first free slot, taken from the chain; slot 0 where there is none.
-pub fn take_slot(store: &mut [u8]) -> Slot
-    ensures { (result.0 ≡ (take_slot store.old).slot) × (store.new ≡ (take_slot store.old).store) }
+// The first free slot, taken from the chain; none where there is none.
+pub fn take_slot(store: &mut [u8]) -> Option<Slot>
+    ensures { (result ≡ some_slot (take_slot store.old).slot) × (store.new ≡ (take_slot store.old).store) }
 {
     let first = first_free(store);
     if !is_slot(store, first as u64) {
-        return Slot(0);
+        return None;
     }
     let slot = Slot(first);
     let next = word::read_u32(store, start_of(slot) + 4);
     word::write_u32(store, FIRST_FREE_AT, next);
-    slot
+    Some(slot)
 }
 
 // The slot becomes the first free one, its bytes those of a free slot.
@@ -361,13 +316,11 @@ pub fn has_free(store: &[u8], n: u32) -> bool
     ensures { result ≡ has_free n store.now (first_of store.now) }
 {
     let mut slot = first_free(store);
-    let mut i: u32 = 0;
-    while i < n {
+    for _ in 0..n {
         if !is_slot(store, slot as u64) {
             return false;
         }
         slot = word::read_u32(store, start_of(Slot(slot)) + 4);
-        i += 1;
     }
     true
 }
@@ -378,24 +331,22 @@ pub fn has_free(store: &[u8], n: u32) -> bool
 fn link(store: &mut [u8], count: u32)
     ensures { store.new ≡ linked store.old 1 (count - 1) }
 {
-    let mut i: u32 = 1;
-    while i < count {
+    for i in 1..count {
         word::write_u32(store, start_of(Slot(i)) + 4, i + 1);
-        i += 1;
     }
 }
 
 // Refused, with nothing changed, where the size or the count is not a store's; else every byte is written.
-pub fn format(store: &mut [u8], count: u32) -> Formatted
+pub fn format(store: &mut [u8], count: u32) -> Result<(), FormatError>
     ensures { Formats store.old count result store.new }
 {
     let len = store.len();
     if !has_size(len, count) {
-        return Formatted::Refused;
+        return Err(FormatError::NotStore);
     }
     word::clear(store, 0, len);
     word::write_u32(store, COUNT_AT, count);
     word::write_u32(store, FIRST_FREE_AT, 1);
     link(store, count);
-    Formatted::Done
+    Ok(())
 }

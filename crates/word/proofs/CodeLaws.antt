@@ -2,31 +2,38 @@
 -- nothing.
 use mathlib.Core.Path.{◌≡◌, refl, sym, ap, ◌∙◌}
 use mathlib.Core.List.{List, [], ◌∷◌, ◌++◌, append_assoc, append-nil}
-use mathlib.Core.Bool.{true, ◌&&◌}
+use mathlib.Core.Bool.{Bool, true, false, ◌&&◌}
 use Prim.Native.Nat.{Ordering}
-use Prim.Native.Nat.{ℕ, zero, suc, max, ◌+◌, ◌-◌, ◌*◌, ◌/◌, ◌%◌, ◌^◌, ◌≤◌, ◌<◌, compare}
-use lib.ListN.{length, get_or, set, drop, length-append, drop_of_length-le, take-append-drop}
-use lib.Seq.{drop-cons}
-use lib.Dec.{eqb}
-use borrow.Author.Tests.{ne_eqb}
+use Prim.Native.Nat.{ℕ, zero, suc, min, max, ◌+◌, ◌-◌, ◌*◌, ◌/◌, ◌%◌, ◌^◌, ◌≤◌, ◌<◌, compare}
+use lib.ListN.{length, get_or, set, take, drop, replicate, length-append, length-drop, drop_of_length-le, take-append-drop}
+use lib.Seq.{drop-cons, take_all, length-take-le}
+use lib.Dec.{eqb, leb}
+use borrow.Author.Tests.{ne_eqb, leb-true, leb-false}
+use borrow.Rule.Slice.PartMut.{put_mid}
 use native.Mathlib.Nat.{div-div-eq-div-mul, div-lt_iff_lt-mul, pow-suc}
 use native.Mathlib.Omega.{arith}
-use Rattle.word.specs.declared.Order.TheVariants.{Less, Equal, Greater}
+use Rattle.std.specs.declared.cmp.Ordering.{Ordering as Order}
+use Rattle.std.specs.declared.cmp.Ordering.TheVariants.{Less, Equal, Greater}
+use Rattle.std.specs.Ordering.{nat_cmp}
+use Rattle.std.specs.Cmp.{nat_cmp_is}
+use Rattle.std.specs.List.{copy_within}
+use Rattle.std.specs.Int.{sum_through, byte_worth, bytes_low_first}
 use Rattle.word.specs.Key.{cmp, pick3, order_of}
 use Rattle.word.specs.Part.{part, over}
 use Rattle.word.specs.Num.{le, un, be, Bytes, zeros, all_zero}
-use Rattle.word.specs.At.{read_at, write_at, copy_at, clear_at, zero_at}
+use Rattle.word.specs.At.{read_at, write_at, copy_at, move_at, clear_at, zero_at}
 use Rattle.word.proofs.KeyOrder.{num_lt, num_gt, num_refl, cmp_front, cmp_eq, cmp_append, cmp_be}
-use Rattle.word.proofs.PartLaws.{length_part, length_part_cut, length_over, part_none, part_more, part_add, part_part, drop_split, over_none, over_beside, set_over}
+use Rattle.word.proofs.PartLaws.{length_part, length_part_cut, length_over, part_none, part_more, part_add, part_part, drop_split, over_none, over_beside, set_over, put_over, paste_over}
 use Rattle.word.proofs.NumLaws.{length_zeros, zeros_append, all_zero_append, all_zero_one, length_le, be_append, un_append, un_same, bytes_part}
 use Rattle.word.proofs.AtLaws.{read_at_in, write_at_in, copy_at_in, clear_at_in, zero_at_in}
+use Rattle.word.proofs.MoveLaws.{move_at_in}
 
 -- a byte stored behind those that are stored already
 over_more : (s : List ℕ) (a : ℕ) (b : List ℕ) (i v : ℕ) → length b ≡ i → a + i < length s → set (over s a b) (a + i) v ≡ over s a (b ++ (v ∷ []))
 over_more s a b i v e h =
     rw (← e) (set_over (over s a b) (a + length b) v (omega (arith, length_over s a b (omega arith))) ∙ over_beside s a b (v ∷ []) (omega arith))
 
--- the loop of `copy`: i bytes stand at their place
+-- loops of crates above that copy or clear byte by byte: i bytes stand at their place
 module _ (d : List ℕ) (at : ℕ) (s : List ℕ) (from : ℕ) where
   pub copy_start : d ≡ over d at (part s from 0)
   copy_start = rw part_none (sym (over_none d at))
@@ -35,95 +42,121 @@ module _ (d : List ℕ) (at : ℕ) (s : List ℕ) (from : ℕ) where
       → set e (at + i) (get_or s (from + i) 0) ≡ over d at (part s from (i + 1))
   copy_turn i h g p = rw (p, part_more s from i 0 g) (over_more d at (part s from i) i (get_or s (from + i) 0) (length_part s from i (omega arith)) h)
 
-  pub copy_end : (n : ℕ) {i : ℕ} {e : List ℕ} → i ≡ n → at + n ≤ length d → from + n ≤ length s → e ≡ over d at (part s from i) → e ≡ copy_at d at s from n
-  copy_end n q h g p = rw (p, q) (sym (copy_at_in d at s from n h g))
+pub clear_turn : (d : List ℕ) (at i : ℕ) {e : List ℕ} → at + i < length d → e ≡ over d at (zeros i) → set e (at + i) 0 ≡ over d at (zeros (i + 1))
+clear_turn d at i h p = rw (p, ← zeros_append) (over_more d at (zeros i) i 0 (length_zeros i) h ∙ unfold zeros in refl)
 
--- the loop of `clear`
-module _ (d : List ℕ) (at : ℕ) where
-  pub clear_start : d ≡ over d at (zeros 0)
-  clear_start = sym (unfold zeros in over_none d at)
+-- a range from `at` on has as many as it is told
+as_many_as : (at n : ℕ) → at + n - at ≡ n
+as_many_as at n = omega arith
 
-  pub clear_turn : (i : ℕ) {e : List ℕ} → at + i < length d → e ≡ over d at (zeros i) → set e (at + i) 0 ≡ over d at (zeros (i + 1))
-  clear_turn i h p = rw (p, ← zeros_append) (over_more d at (zeros i) i 0 (length_zeros i) h ∙ unfold zeros in refl)
+-- `copy`, `move_up` and `clear` where all lies within
+pub copy_in : (d : List ℕ) (at : ℕ) (s : List ℕ) (from n : ℕ) {b : List ℕ} → at + n ≤ length d → from + n ≤ length s → b ≡ take (from + n - from) (drop from s) → put_mid at (at + n - at) d b ≡ copy_at d at s from n
+copy_in d at s from n h g e =
+    let q : take (from + n - from) (drop from s) ≡ part s from n = unfold part in rw (as_many_as from n) in
+    let l : length (part s from n) ≡ n = length_part s from n g in
+    rw (e, q, as_many_as at n) (put_over d at n (part s from n) l ∙ sym (copy_at_in d at s from n h g))
 
-  pub clear_end : (n : ℕ) {i : ℕ} {e : List ℕ} → i ≡ n → at + n ≤ length d → e ≡ over d at (zeros i) → e ≡ clear_at d at n
-  clear_end n q h p = rw (p, q) (sym (clear_at_in d at n h))
+pub move_in : (s : List ℕ) (at n up : ℕ) → at + n + up ≤ length s → copy_within s at (at + n) (at + up) ≡ move_at s at n up
+move_in s at n up h =
+    rw (as_many_as at n) (paste_over s (at + up) s at n (omega arith) ∙ sym (move_at_in s at n up h))
 
--- the loop of `is_zero`: m is the largest of i bytes
+zeros_are : (n : ℕ) → replicate {A = ℕ} n 0 ≡ zeros n
+unfolding zeros
+zeros_are n = refl
+
+pub clear_in : (d : List ℕ) (at n : ℕ) {b : List ℕ} → at + n ≤ length d → b ≡ replicate (length (take (at + n - at) (drop at d))) 0 → put_mid at (at + n - at) d b ≡ clear_at d at n
+clear_in d at n {b} h e =
+    let l : length (take n (drop at d)) ≡ n = length-take-le n (drop at d) (simp length-drop (omega arith)) in
+    let q : b ≡ zeros n = rw (as_many_as at n, l) at e ∙ zeros_are n in
+    rw (q, as_many_as at n) (put_over d at n (zeros n) (length_zeros n) ∙ sym (clear_at_in d at n h))
+
+-- the loop of `is_zero`: m is the largest of the first i bytes
 max_zero : (m b : ℕ) → eqb (max m b) 0 ≡ (eqb m 0 && eqb b 0)
 max_zero zero b = let e : max 0 b ≡ b = omega arith in rw e
 max_zero (suc m) b = rw (ne_eqb (max (suc m) b) 0 (omega arith), ne_eqb (suc m) 0 (omega arith))
 
-module _ (s : List ℕ) (at : ℕ) where
-  pub zero_start : true ≡ all_zero (part s at 0)
-  unfolding all_zero
-  zero_start = rw part_none
-
-  pub zero_turn : (i m m' : ℕ) → at + i < length s → eqb m 0 ≡ all_zero (part s at i) → m' ≡ max m (get_or s (at + i) 0) → eqb m' 0 ≡ all_zero (part s at (i + 1))
-  zero_turn i m m' h e q = rw (q, part_more s at i 0 h, all_zero_append, all_zero_one, ← e) (max_zero m (get_or s (at + i) 0))
-
-  pub zero_end : (n m : ℕ) {i : ℕ} → i ≡ n → at + n ≤ length s → eqb m 0 ≡ all_zero (part s at i) → eqb m 0 ≡ zero_at s at n
-  zero_end n m q h e = rw (e, q) (sym (zero_at_in s at n h))
-
--- straight-line code stores, from the second byte on, vs at a + i, a + i + 1 and so on
-abbrev pub stored : List ℕ → ℕ → ℕ → List ℕ → List ℕ
-stored s a i [] = s
-stored s a i (v ∷ vs) = stored (set s (a + i) v) a (suc i) vs
-
-stored_more : (s : List ℕ) (a : ℕ) (b vs : List ℕ) → a + length b + length vs ≤ length s → stored (over s a b) a (length b) vs ≡ over s a (b ++ vs)
-stored_more s a b [] h = rw append-nil
-stored_more s a b (v ∷ vs) h =
-    let l : suc (length b) ≡ length (b ++ (v ∷ [])) = simp length-append (omega arith) in
-    rw (over_more s a b (length b) v refl (omega arith), l) (stored_more s a (b ++ (v ∷ [])) vs (omega arith) ∙ simp append_assoc)
-
--- it cuts a number into bytes by divisors that grow; the highest byte is what is left
-abbrev pub cut : ℕ → ℕ → ℕ → List ℕ
-cut zero x m = x / m ∷ []
-cut (suc k) x m = x / m % 256 ∷ cut k x (m * 256)
-
-cut_le : (k x m : ℕ) → 0 < m → x < 256 ^ suc k * m → cut k x m ≡ le (suc k) (x / m)
-unfolding le
-cut_le zero x m pos h = let e : x / m < 256 = (div-lt_iff_lt-mul pos).1 h in let f : x / m % 256 ≡ x / m = omega arith in rw f
-cut_le (suc k) x m pos h = rw (div-div-eq-div-mul x m 256) (ap (λ (t : List ℕ). x / m % 256 ∷ t) (cut_le k x (m * 256) (omega arith) (let g = rw (pow-suc 256 (suc k)) at h in omega arith)))
-
-pub write_straight : (k : ℕ) (s : List ℕ) (at x : ℕ) → at + suc (suc k) ≤ length s → x < 256 ^ suc (suc k)
-    → stored (set s at (x % 256)) at 1 (cut k x 256) ≡ write_at (suc (suc k)) s at x
-unfolding le
-write_straight k s at x h small =
-    let e : cut k x 256 ≡ le (suc k) (x / 256) = cut_le k x 256 (omega arith) (rw (pow-suc 256 (suc k)) at small) in
-    let l = length_le (suc k) (x / 256) in
-    rw (write_at_in (suc (suc k)) s at x h, e, set_over s at (x % 256) (omega arith)) (stored_more s at (x % 256 ∷ []) (le (suc k) (x / 256)) (omega arith))
-
--- it reads, from the second byte on, bs at a + i, a + i + 1 and so on
-abbrev pub Reads : List ℕ → ℕ → ℕ → List ℕ → Type 0
-Reads s a i [] = Unit {0}
-Reads s a i (b ∷ bs) = (b ≡ get_or s (a + i) 0) × Reads s a (suc i) bs
-
-reads_part : (s : List ℕ) (a i : ℕ) (bs : List ℕ) → a + i + length bs ≤ length s → Reads s a i bs → bs ≡ part s (a + i) (length bs)
+front_more : (l : List ℕ) (i : ℕ) → i < length l → take (i + 1) l ≡ take i l ++ (get_or l i 0 ∷ [])
 unfolding part
-reads_part s a i [] h r = refl
-reads_part s a i (b ∷ bs) h r =
-    let e : a + suc i ≡ suc (a + i) = omega arith in
-    let ih = rw e at (reads_part s a (suc i) bs (omega arith) r.1) in
-    rw (drop-cons s (a + i) 0 (omega arith)) (cc (r.0, ih))
+front_more l i h = let e : 0 + i ≡ i = omega arith in rw e at (part_more l 0 i 0 (omega arith))
 
--- a number of what it reads is that of the part
-module _ (s : List ℕ) (at b : ℕ) (bs : List ℕ) {v : ℕ} where
-  pub reads_by : (f : List ℕ → ℕ) → v ≡ f (b ∷ bs) → at + suc (length bs) ≤ length s → b ≡ get_or s at 0 → Reads s at 1 bs → v ≡ f (part s at (suc (length bs)))
-  reads_by f q h p r =
-      let e : at + 0 ≡ at = omega arith in
-      q ∙ ap f (rw e at (reads_part s at 0 (b ∷ bs) (omega arith) (rw e p, r)))
+pub zero_start : (l : List ℕ) → true ≡ all_zero (take 0 l)
+unfolding all_zero
+zero_start l = refl
 
-  pub reads_at : v ≡ un (b ∷ bs) → at + suc (length bs) ≤ length s → b ≡ get_or s at 0 → Reads s at 1 bs → v ≡ read_at (suc (length bs)) s at
-  reads_at q h p r = reads_by un q h p r ∙ sym (read_at_in (suc (length bs)) s at h)
+pub zero_turn : (l : List ℕ) (i m m' : ℕ) → i < length l → eqb m 0 ≡ all_zero (take i l) → m' ≡ max m (get_or l i 0) → eqb m' 0 ≡ all_zero (take (i + 1) l)
+zero_turn l i m m' h e q = rw (q, front_more l i h, all_zero_append, all_zero_one, ← e) (max_zero m (get_or l i 0))
 
--- two halves of a number
-module _ (a b : List ℕ) {v w : ℕ} where
-  pub be_halves : v ≡ be a → w ≡ be b → v * 256 ^ length b + w ≡ be (a ++ b)
-  be_halves e f = rw (e, f) (sym (be_append a b))
+pub zero_end : (s : List ℕ) (at n m i : ℕ) → at + n ≤ length s → length (take (at + n - at) (drop at s)) ≤ i → eqb m 0 ≡ all_zero (take i (take (at + n - at) (drop at s))) → eqb m 0 ≡ zero_at s at n
+zero_end s at n m i h g e =
+    let q : take i (take (at + n - at) (drop at s)) ≡ part s at n = take_all i (take (at + n - at) (drop at s)) g ∙ unfold part in rw (as_many_as at n) in
+    e ∙ ap all_zero q ∙ sym (zero_at_in s at n h)
 
-  pub un_halves : v ≡ un a → w ≡ un b → v + w * 256 ^ length a ≡ un (a ++ b)
-  un_halves e f = rw (e, f) (sym (un_append a b))
+-- the library's numbers of bytes are those of specs/Num.antt
+low_front : (s : List ℕ) (k : ℕ) → k < length s → sum_through (λ (i : ℕ). byte_worth i (get_or s i 0)) k ≡ un (take (k + 1) s)
+unfolding un
+low_front s zero h = rw (front_more s 0 h) (omega arith)
+low_front s (suc k) h =
+    let l : length (take (suc k) s) ≡ suc k = length-take-le (suc k) s (omega arith) in
+    let e : k + 1 ≡ suc k = omega arith in
+    let ih : sum_through (λ (i : ℕ). byte_worth i (get_or s i 0)) k ≡ un (take (suc k) s) = rw e at (low_front s k (omega arith)) in
+    rw (front_more s (suc k) h, un_append, l, ih) (omega arith)
+
+pub le_un : (s : List ℕ) (k : ℕ) → length s ≡ suc k → sum_through (λ (i : ℕ). byte_worth i (get_or s i 0)) k ≡ un s
+le_un s k h = low_front s k (omega arith) ∙ ap un (take_all (k + 1) s (omega arith))
+
+low_first : (i k n : ℕ) → bytes_low_first (suc i) k n ≡ le k (n / 256 ^ suc i)
+unfolding le
+low_first i zero n = refl
+low_first i (suc k) n =
+    let e : n / 256 ^ suc i / 256 ≡ n / 256 ^ suc (suc i) = div-div-eq-div-mul n (256 ^ suc i) 256 ∙ rw (pow-suc 256 (suc i)) in
+    rw e (ap (λ (t : List ℕ). n / 256 ^ suc i % 256 ∷ t) (low_first (suc i) k n))
+
+pub to_le : (k n : ℕ) → bytes_low_first 0 (suc k) n ≡ le (suc k) n
+unfolding le
+to_le k n = ap (λ (t : List ℕ). n % 256 ∷ t) (low_first 0 k n)
+
+-- a read and a write of the library's
+pub read_in : (k : ℕ) (s : List ℕ) (at : ℕ) {b : List ℕ} {v : ℕ} → at + suc k ≤ length s → b ≡ part s at (suc k) → v ≡ sum_through (λ (i : ℕ). byte_worth i (get_or b i 0)) k → v ≡ read_at (suc k) s at
+read_in k s at {b} h e f =
+    let l : length b ≡ suc k = ap length e ∙ length_part s at (suc k) h in
+    f ∙ le_un b k l ∙ ap un e ∙ sym (read_at_in (suc k) s at h)
+
+pub write_in : (k : ℕ) (s : List ℕ) (at x : ℕ) {b : List ℕ} → at + suc k ≤ length s → b ≡ bytes_low_first 0 (suc k) x → put_mid at (at + suc k - at) s b ≡ write_at (suc k) s at x
+write_in k s at x h e =
+    let q = e ∙ to_le k x in
+    let m = as_many_as at (suc k) in
+    rw (q, m) (put_over s at (suc k) (le (suc k) x) (length_le (suc k) x) ∙ sym (write_at_in (suc k) s at x h))
+
+pub part_of : (s : List ℕ) (at n : ℕ) {b : List ℕ} → b ≡ take (at + n - at) (drop at s) → b ≡ part s at n
+part_of s at n e = e ∙ unfold part in rw (as_many_as at n)
+
+-- eight bytes with the highest first
+pub be_eight : (s : List ℕ) → length s ≡ 8 → sum_through (λ (i : ℕ). byte_worth (7 - i) (get_or s i 0)) 7 ≡ be s
+unfolding be
+be_eight s h =
+    let c0 : s ≡ get_or s 0 0 ∷ drop 1 s = drop-cons s 0 0 (omega arith) in
+    let c1 : drop 1 s ≡ get_or s 1 0 ∷ drop 2 s = drop-cons s 1 0 (omega arith) in
+    let c2 : drop 2 s ≡ get_or s 2 0 ∷ drop 3 s = drop-cons s 2 0 (omega arith) in
+    let c3 : drop 3 s ≡ get_or s 3 0 ∷ drop 4 s = drop-cons s 3 0 (omega arith) in
+    let c4 : drop 4 s ≡ get_or s 4 0 ∷ drop 5 s = drop-cons s 4 0 (omega arith) in
+    let c5 : drop 5 s ≡ get_or s 5 0 ∷ drop 6 s = drop-cons s 5 0 (omega arith) in
+    let c6 : drop 6 s ≡ get_or s 6 0 ∷ drop 7 s = drop-cons s 6 0 (omega arith) in
+    let c7 : drop 7 s ≡ get_or s 7 0 ∷ drop 8 s = drop-cons s 7 0 (omega arith) in
+    let g : length s ≤ 8 = omega arith in
+    let z : drop 8 s ≡ [] = drop_of_length-le s g in
+    let w : s ≡ get_or s 0 0 ∷ get_or s 1 0 ∷ get_or s 2 0 ∷ get_or s 3 0 ∷ get_or s 4 0 ∷ get_or s 5 0 ∷ get_or s 6 0 ∷ get_or s 7 0 ∷ [] = c0 ∙ rw (c1, c2, c3, c4, c5, c6, c7, z) in
+    sym (ap be w ∙ omega arith)
+
+-- eight bytes that were read, as a number either way
+module _ (s : List ℕ) (at : ℕ) {b : List ℕ} (h : at + 8 ≤ length s) (e : b ≡ part s at 8) where
+  eight_read : length b ≡ 8
+  eight_read = ap length e ∙ length_part s at 8 h
+
+  pub un_read : {v : ℕ} → v ≡ sum_through (λ (i : ℕ). byte_worth i (get_or b i 0)) 7 → v ≡ un (part s at 8)
+  un_read f = f ∙ le_un b 7 eight_read ∙ ap un e
+
+  pub be_read : {v : ℕ} → v ≡ sum_through (λ (i : ℕ). byte_worth (7 - i) (get_or b i 0)) 7 → v ≡ be (part s at 8)
+  be_read f = f ∙ be_eight b eight_read ∙ ap be e
 
 part_one : (s : List ℕ) (i : ℕ) → i < length s → part s i 1 ≡ get_or s i 0 ∷ []
 unfolding part
@@ -159,14 +192,26 @@ module _ (key s : List ℕ) (at n i : ℕ) (front : part key 0 i ≡ part s at i
       ∙ ap (λ (k : List ℕ). cmp (part key 0 i ++ drop i key) k) (front_rest p i ∙ ap (λ (k : List ℕ). k ++ drop i p) f)
       ∙ cmp_front (part key 0 i) (drop i key) (drop i p)
 
-  pub compare_longer : i < length key → length (part s at n) ≤ i → Greater ≡ order_of (cmp key (part s at n))
-  compare_longer h g = rw (behind_lem, drop-cons key i 0 h, drop_of_length-le (part s at n) g)
+  -- one of both has ended, and so their lengths decide
+  pub compare_rest : {len : ℕ} {o : Order} → len ≡ length (part s at n) → min (length key) len ≤ i → i ≤ length key → o ≡ nat_cmp (length key) len → o ≡ order_of (cmp key (part s at n))
+  compare_rest {len} {o} e h g a = go (leb len (length key)) refl
+    where
+      ended_lem : length key ≡ len → Equal ≡ order_of (cmp key (part s at n))
+      ended_lem q = let w : length key ≤ i = omega arith in let z : length (part s at n) ≤ i = omega arith in rw (behind_lem, drop_of_length-le key w, drop_of_length-le (part s at n) z)
 
-  pub compare_shorter : length key ≤ i → i < length (part s at n) → Less ≡ order_of (cmp key (part s at n))
-  compare_shorter h g = rw (behind_lem, drop_of_length-le key h, drop-cons (part s at n) i 0 g)
+      longer : len < length key → Greater ≡ order_of (cmp key (part s at n))
+      longer q = let w : i < length key = omega arith in let z : length (part s at n) ≤ i = omega arith in rw (behind_lem, drop-cons key i 0 w, drop_of_length-le (part s at n) z)
 
-  pub compare_ended : length key ≤ i → length (part s at n) ≤ i → Equal ≡ order_of (cmp key (part s at n))
-  compare_ended h g = rw (behind_lem, drop_of_length-le key h, drop_of_length-le (part s at n) g)
+      shorter : length key < len → Less ≡ order_of (cmp key (part s at n))
+      shorter q = let w : length key ≤ i = omega arith in let z : i < length (part s at n) = omega arith in rw (behind_lem, drop_of_length-le key w, drop-cons (part s at n) i 0 z)
+
+      go2 : len ≤ length key → (b : Bool) → leb (length key) len ≡ b → o ≡ order_of (cmp key (part s at n))
+      go2 w true t = let q = leb-true (length key) len t in let z : length key ≡ len = omega arith in a ∙ sym (nat_cmp_is (length key) len Equal z) ∙ ended_lem z
+      go2 w false t = let q = leb-false (length key) len t in a ∙ sym (nat_cmp_is (length key) len Greater q) ∙ longer q
+
+      go : (b : Bool) → leb len (length key) ≡ b → o ≡ order_of (cmp key (part s at n))
+      go true t = go2 (leb-true len (length key) t) (leb (length key) len) refl
+      go false t = let q = leb-false len (length key) t in a ∙ sym (nat_cmp_is (length key) len Less q) ∙ shorter q
 
   -- k bytes more that are the same
   pub compare_turn : (k : ℕ) → part key i k ≡ part s (at + i) k → part key 0 (i + k) ≡ part s at (i + k)
@@ -195,14 +240,21 @@ module _ (key s : List ℕ) (at n i : ℕ) (front : part key 0 i ≡ part s at i
           ∙ rw (drop_split key i k, drop_split (part s at n) i k, in_part)
           (cmp_append (part key i k) (part s (at + i) k) (drop (i + k) key) (drop (i + k) (part s at n)) as_many ∙ rw numbers)
 
-      pub compare_less : v < w → Less ≡ order_of (cmp key (part s at n))
+      compare_less : v < w → Less ≡ order_of (cmp key (part s at n))
       compare_less l = rw (more, num_lt v w l)
 
-      pub compare_greater : w < v → Greater ≡ order_of (cmp key (part s at n))
+      compare_greater : w < v → Greater ≡ order_of (cmp key (part s at n))
       compare_greater l = rw (more, num_gt v w l)
 
+      -- numbers that differ decide
+      pub compare_number : {o : Order} → (v ≡ w → ⊥) → o ≡ nat_cmp v w → o ≡ order_of (cmp key (part s at n))
+      compare_number {o} d a = go (leb w v) refl
+        where
+          go : (b : Bool) → leb w v ≡ b → o ≡ order_of (cmp key (part s at n))
+          go true t = let l = leb-true w v t in let m : w < v = omega (arith, d) in a ∙ sym (nat_cmp_is v w Greater m) ∙ compare_greater m
+          go false t = let l = leb-false w v t in a ∙ sym (nat_cmp_is v w Less l) ∙ compare_less l
+
       -- those that differ as they stand differ here too
-      pub unlike_greater : {x y : ℕ} → x ≡ un (part key i k) → y ≡ un (part s (at + i) k) → (x ≡ y → ⊥) → w ≤ v → Greater ≡ order_of (cmp key (part s at n))
-      unlike_greater r t d l =
-          let apart : v ≡ w → ⊥ = λ z. d (r ∙ ap un (cmp_eq (part key i k) (part s (at + i) k) (numbers ∙ rw z (num_refl w))) ∙ sym t) in
-          compare_greater (omega (arith, apart))
+      pub unlike_number : {x y : ℕ} {o : Order} → x ≡ un (part key i k) → y ≡ un (part s (at + i) k) → (x ≡ y → ⊥) → o ≡ nat_cmp v w → o ≡ order_of (cmp key (part s at n))
+      unlike_number r t d =
+          compare_number (λ z. d (r ∙ ap un (cmp_eq (part key i k) (part s (at + i) k) (numbers ∙ rw z (num_refl w))) ∙ sym t))

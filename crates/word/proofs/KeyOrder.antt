@@ -6,6 +6,9 @@ use mathlib.Core.List.{List, [], ◌∷◌, ◌++◌}
 use Prim.Native.Nat.compare
 use Prim.Native.Nat.{ℕ, zero, suc, ◌+◌, ◌*◌, ◌^◌, ◌<◌, compare, Ordering}
 use lib.ListN.{length}
+use lib.Dec.{eqb, compare_is_eq}
+use lib.Pointwise.{pointwise}
+use mathlib.Core.Bool.{Bool, ◌&&◌}
 use native.Mathlib.Omega.{arith}
 use Rattle.word.specs.Key.{Key, cmp, pick3, Lt}
 use Rattle.word.specs.Num.{be, Bytes}
@@ -163,3 +166,15 @@ lt_total a b = go (cmp a b) refl
 -- antisymmetric: not both are smaller, so none is smaller than itself
 pub lt_asym : (a b : Key) → Lt a b → Lt b a → ⊥
 lt_asym a b p q = let k : ◌≡◌ {A = ℕ} 0 1 = cc (lt_gt a b p) in omega arith
+
+-- the library's test whether two slices are equal, told by the order of keys
+by_head : (o : Ordering) {p : Bool} (q : Ordering) → p ≡ compare_is_eq q → (compare_is_eq o && p) ≡ compare_is_eq (pick3 o Ordering.lt q Ordering.gt)
+by_head Ordering.lt q e = refl
+by_head Ordering.eq q e = e
+by_head Ordering.gt q e = refl
+
+pub equal_cmp : (a b : Key) → pointwise eqb a b ≡ compare_is_eq (cmp a b)
+equal_cmp [] [] = refl
+equal_cmp [] (y ∷ b) = refl
+equal_cmp (x ∷ a) [] = refl
+equal_cmp (x ∷ a) (y ∷ b) = by_head (compare x y) (cmp a b) (equal_cmp a b)

@@ -3,7 +3,8 @@ use mathlib.Core.Path.{◌≡◌, refl, sym, ap, ◌∙◌}
 use mathlib.Core.List.{List, [], ◌∷◌, ◌++◌, append_assoc, append-nil}
 use Prim.Native.Nat.{ℕ, zero, suc, min, ◌+◌, ◌-◌, ◌≤◌, ◌<◌}
 use lib.ListN.{length, get_or, set, take, drop, length-append, length-take, length-drop, take-append-drop}
-use lib.Seq.{take_at, drop_at, take-append-le, drop-append-add, take-take, drop-drop, length-take-le, drop-append-le, take-nil, take-add, take-suc, take-length, get_or-drop, set_split}
+use lib.Seq.{paste, take_at, drop_at, take-append-le, drop-append-add, take-take, drop-drop, length-take-le, drop-append-le, take-nil, take-add, take-suc, take-length, get_or-drop, set_split}
+use borrow.Rule.Slice.PartMut.{put_mid}
 use native.Mathlib.Numerals.{add-one}
 use native.Mathlib.Omega.{arith}
 use Rattle.word.specs.Part.{part, over}
@@ -95,6 +96,15 @@ module _ {A : Type 0} where
   over_nest s a k b d h g =
       over_in (over s a b) a k (length b) d (rw (length_over s a b h) h) g
       ∙ rw (part_over s a (length b) b (omega arith) refl) (over_same s a b (over b k d) (omega arith) (sym (length_over b k d g)))
+
+  -- what a write to k elements from a on leaves of a slice, and a copy of n elements of b from `from` on
+  pub put_over : (s : List A) (a k : ℕ) (b : List A) → length b ≡ k → put_mid a k s b ≡ over s a b
+  unfolding over
+  put_over s a k b e = rw (e, drop-drop k a s)
+
+  pub paste_over : (s : List A) (a : ℕ) (b : List A) (from n : ℕ) → from + n ≤ length b → paste s a (drop from b) n ≡ over s a (part b from n)
+  unfolding over part
+  paste_over s a b from n h = let l : length (take n (drop from b)) ≡ n = length-take-le n (drop from b) (simp length-drop (omega arith)) in rw (l, append_assoc)
 
   pub part_seam : (p m q : List A) (a n : ℕ) → length p ≡ a → length m ≡ n → part (p ++ (m ++ q)) a n ≡ m
   unfolding part

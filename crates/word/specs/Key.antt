@@ -1,8 +1,8 @@
 -- The order of keys: "keys compare byte by byte (a proper prefix is smaller)". Assumes nothing.
 use Rattle.std.specs.Prelude.{◌≡◌, List, [], ◌∷◌, Bool, true, false}
 use Prim.Native.Nat.{ℕ, compare, Ordering}
-use Rattle.word.specs.declared.Order.{Order}
-use Rattle.word.specs.declared.Order.TheVariants.{Less, Equal, Greater}
+use Rattle.std.specs.declared.cmp.Ordering.{Ordering as Order}
+use Rattle.std.specs.declared.cmp.Ordering.TheVariants.{Less, Equal, Greater}
 
 abbrev pub Key : Type 0
 Key = List ℕ

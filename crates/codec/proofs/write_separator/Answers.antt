@@ -1,5 +1,5 @@
 -- `codec::write_separator` meets its contract. Assumes nothing.
-use Rattle.codec.proofs.WriteLaws.{sep_room, sep_room_long, put_length, put_length_long, put_1, put_2, put_3, put_4}
+use Rattle.codec.proofs.WriteLaws.{sep_room, sep_room_long, put_1, put_2, put_3, put_4}
 use native.Mathlib.Omega.{arith}
 use Rattle.codec.proofs.write_separator.Goals as goal
 
@@ -30,14 +30,8 @@ overflow_add-at-else-len-lt255 c = omega (arith, sep_room_long _ _ _ c.sep_lengt
 pub overflow_add-at-else-len-lt255-2 : goal.overflow_add-at-else-len-lt255-2
 overflow_add-at-else-len-lt255-2 c = omega (arith, sep_room_long _ _ _ c.sep_length.ensures c.fits.ensures c.if-not-fits.false-raw c.if-len-lt255.false)
 
-pub shape_of-dst-then-len-lt255 : goal.shape_of-dst-then-len-lt255
-shape_of-dst-then-len-lt255 c = put_length _ _ _ _ _ _ _ _ _ c.write_u64.ensures c.copy.ensures
-
 pub returns-then-len-lt255 : goal.returns-then-len-lt255
 returns-then-len-lt255 c = put_3 _ _ _ _ _ _ c.requires c.if-len-gt288.false c.sep_length.ensures c.fits.ensures c.if-not-fits.false-raw c.write_u64.ensures c.if-len-lt255.true c.copy.ensures
-
-pub shape_of-dst-else-len-lt255 : goal.shape_of-dst-else-len-lt255
-shape_of-dst-else-len-lt255 c = put_length_long _ _ _ _ _ _ _ _ _ c.write_u64.ensures _ _ c.write_u32.ensures c.copy-else-len-lt255.ensures
 
 pub returns-else-len-lt255 : goal.returns-else-len-lt255
 returns-else-len-lt255 c = put_4 _ _ _ _ _ _ c.requires c.if-len-gt288.false c.sep_length.ensures c.fits.ensures c.if-not-fits.false-raw c.write_u64.ensures c.if-len-lt255.false c.write_u32.ensures c.copy-else-len-lt255.ensures

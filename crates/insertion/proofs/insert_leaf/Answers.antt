@@ -5,7 +5,7 @@ use native.Mathlib.Omega.{arith}
 use Rattle.insertion.proofs.insert_leaf.Goals as goal
 
 pub returns-then-not-takes : goal.returns-then-not-takes
-returns-then-not-takes c = leaf_1 _ _ _ c.args.key.now c.args.value c.read_places-places.ensures c.takes.ensures c.if-not-takes.true-raw c.of.ensures
+returns-then-not-takes c = leaf_1 _ _ _ c.args.key.now c.args.value c.read_places-places.ensures c.takes.ensures c.if-not-takes.true-raw
 
 pub place_of-place-requires : goal.place_of-place-requires
 place_of-place-requires c = place_fits _ _ _ _ _ c.read_places-places.ensures c.takes.ensures c.if-not-takes.false-raw

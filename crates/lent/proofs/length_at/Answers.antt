@@ -1,9 +1,8 @@
 -- `lent::length_at` meets its contract. Assumes nothing.
-use Rattle.lent.proofs.LentLaws.{within_1, within_2}
+use mathlib.Core.Path.{◌∙◌}
+use Rattle.lent.proofs.LentLaws.{got}
+use borrow.Author.Rules.{rules}
 use Rattle.lent.proofs.length_at.Goals as goal
 
-pub returns-then-i-gt-LAST_SEPARATOR : goal.returns-then-i-gt-LAST_SEPARATOR
-returns-then-i-gt-LAST_SEPARATOR c = within_1 7 _ _ 0 c.if-i-gt-LAST_SEPARATOR.true
-
 pub returns : goal.returns
-returns c = within_2 7 _ _ 0 c.if-i-gt-LAST_SEPARATOR.false
+returns c = c.unwrap_or.ensures ∙ rw c.copied.ensures (got 7 _ _ 0 _ (search rules) c.get.ensures.lookup)

@@ -1,9 +1,10 @@
 -- `lent::value_at` meets its contract. Assumes nothing.
-use Rattle.lent.proofs.LentLaws.{value_1, value_2}
+use mathlib.Core.Path.{ap, ◌∙◌}
+use Rattle.node.specs.declared.Value.{Value}
+use Rattle.node.specs.Chain.{value_of}
+use Rattle.lent.proofs.LentLaws.{got}
+use borrow.Author.Rules.{rules}
 use Rattle.lent.proofs.value_at.Goals as goal
 
-pub returns-then-i-gt-LAST_SEPARATOR : goal.returns-then-i-gt-LAST_SEPARATOR
-returns-then-i-gt-LAST_SEPARATOR c = value_1 _ _ c.if-i-gt-LAST_SEPARATOR.true
-
 pub returns : goal.returns
-returns c = value_2 _ _ c.if-i-gt-LAST_SEPARATOR.false
+returns c = ap (λ (x : Value). x.0) (c.unwrap_or.ensures ∙ rw c.copied.ensures (got 7 _ _ (value_of 0) _ (search rules) c.get.ensures.lookup))

@@ -1,15 +1,10 @@
-use Rattle.lines.proofs.WriteLaws.{digits_start, digits_small, digits_turn, digits_end}
+-- `lines::digits` meets its contract: by the power of ten that the number reaches. Assumes nothing.
+use Rattle.lines.proofs.WriteLaws.{digits_few, digits_many}
 use native.Mathlib.Omega.{arith}
 use Rattle.lines.proofs.digits.Goals as goal
 
-pub loop-v-init : goal.loop-v-init
-loop-v-init c = (omega arith, digits_start _)
+pub returns-in-Some : goal.returns-in-Some
+returns-in-Some c = let h = c.in-Some.ensures in (digits_many _ _ h.power_le h.next_power_gt (omega arith), omega arith)
 
-pub overflow_add-n : goal.overflow_add-n
-overflow_add-n c = omega (arith, digits_small _ _ _ c.loop-v.invariant.1)
-
-pub loop-v-preserved : goal.loop-v-preserved
-loop-v-preserved c = (omega arith, digits_turn _ _ _ c.loop-v.invariant.1 (omega arith) (omega arith))
-
-pub returns : goal.returns
-returns c = digits_end _ _ _ c.loop-v.invariant.1 (omega arith)
+pub returns-in-None : goal.returns-in-None
+returns-in-None c = (digits_few _ (omega (arith, c.in-None.ensures)), omega arith)

@@ -7,10 +7,10 @@ pub returns-then-text-gt16384 : goal.returns-then-text-gt16384
 returns-then-text-gt16384 c = parse_1 _ _ _ c.if-text-gt16384.true c.clear.ensures
 
 pub overflow_sub-room : goal.overflow_sub-room
-overflow_sub-room c = let w = parse_within c.args.text.now c.args.records.now c.if-text-gt16384.false _ _ c.put_lines.ensures _ c.in-Done.is in omega arith
+overflow_sub-room c = let w = parse_within c.args.text.now c.args.records.now c.if-text-gt16384.false _ _ c.put_lines.ensures _ c.in-Some.is in omega arith
 
-pub returns-in-Done : goal.returns-in-Done
-returns-in-Done c = parse_2 c.args.text.now c.args.records.now c.if-text-gt16384.false _ _ c.put_lines.ensures _ c.in-Done.is _ c.clear-in-Done.ensures
+pub returns-in-Some : goal.returns-in-Some
+returns-in-Some c = parse_2 c.args.text.now c.args.records.now c.if-text-gt16384.false _ _ c.put_lines.ensures _ c.in-Some.is _ c.clear-in-Some.ensures
 
-pub returns-in-Refused : goal.returns-in-Refused
-returns-in-Refused c = parse_3 c.args.text.now c.args.records.now c.if-text-gt16384.false _ _ c.put_lines.ensures _ c.in-Refused.is c.records-2-1.given c.clear-in-Refused.ensures
+pub returns-in-None : goal.returns-in-None
+returns-in-None c = parse_3 c.args.text.now c.args.records.now c.if-text-gt16384.false _ _ c.put_lines.ensures _ c.in-None.is c.records-2-1.given c.clear-in-None.ensures

@@ -16,8 +16,5 @@ bounds-dst-hex c = omega (arith, c.dst-1.given, entry_within c.args.key.now c.ar
 pub bounds-dst-hex-2 : goal.bounds-dst-hex-2
 bounds-dst-hex-2 c = omega (arith, c.dst-1.given, simp length-set at c.dst-2-1.given, entry_within c.args.key.now c.args.value c.args.dst.now c.digits-n.ensures.0 c.fits.ensures c.if-not-fits.false-raw)
 
-pub shape_of-dst : goal.shape_of-dst
-shape_of-dst c = simp length-set (omega (arith, c.dst-1.given, simp length-set at c.dst-2-1.given))
-
 pub returns : goal.returns
 returns c = entry_3 _ _ _ c.digits-n.ensures.0 c.fits.ensures c.if-not-fits.false-raw c.put_hex.ensures c.put_decimal.ensures

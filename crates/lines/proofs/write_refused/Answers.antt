@@ -1,17 +1,10 @@
 -- `lines::write_refused` meets its contract: a law for each way through it. Assumes nothing.
-use lib.ListN.{length-set}
 use Rattle.lines.proofs.WriteLaws.{refused_1, refused_2}
 use native.Mathlib.Omega.{arith}
 use Rattle.lines.proofs.write_refused.Goals as goal
 
 pub returns-then-dst-n : goal.returns-then-dst-n
 returns-then-dst-n c = refused_1 _ _ _ c.digits-n.ensures.0 c.digits-m.ensures.0 (omega arith)
-
-pub bounds-dst-n-2 : goal.bounds-dst-n-2
-bounds-dst-n-2 c = omega (arith, c.dst-1.given, c.dst-2-1.given, simp length-set at c.dst-3-1.given)
-
-pub shape_of-dst : goal.shape_of-dst
-shape_of-dst c = simp length-set (omega (arith, c.dst-1.given, c.dst-2-1.given, simp length-set at c.dst-3-1.given))
 
 pub returns : goal.returns
 returns c = refused_2 _ _ _ c.digits-n.ensures.0 c.digits-m.ensures.0 (omega arith) c.copy.ensures c.put_decimal.ensures c.put_decimal-2.ensures

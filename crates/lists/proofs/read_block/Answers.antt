@@ -1,5 +1,5 @@
 -- `lists::read_block`: what the block's length and the block took of the file, one behind the other.
-use Rattle.std.proofs.Common.{◌≡◌, ℕ, zero, suc, List, [], ◌∷◌, ◌++◌, length, take, drop, refl, sym, ap, subst}
+use Rattle.std.proofs.Common.{◌≡◌, ℕ, zero, suc, List, [], ◌∷◌, ◌++◌, take, drop, refl, sym, ap, subst}
 use Rattle.std.specs.Prelude.{Option}
 use Rattle.std.specs.Io.KnownBytes.{Consumes}
 use Rattle.std.proofs.KnownBytes.{Consumes-trans}
@@ -19,18 +19,6 @@ both_taken old mid new head p r k a b =
 
 pub returns-in_err-got-clause-none_lost : goal.returns-in_err-got-clause-none_lost
 returns-in_err-got-clause-none_lost g c =
-    let head = c.read_number.ensures.moved_on in
-    let block = c.read_full.ensures.none_lost in
-    both_taken (g.R.Read.remaining c.args.file.now) (g.R.Read.remaining c.read_number.new.file) (g.R.Read.remaining c.read_full.new.reader) head.0 c.read_full.new.buf (drop c.in_ok-len.len c.args.buf.now) block.0 head.1 block.1
-
-pub returns-then-got-len-clause-none_lost : goal.returns-then-got-len-clause-none_lost
-returns-then-got-len-clause-none_lost g c =
-    let head = c.read_number.ensures.moved_on in
-    let block = c.read_full.ensures.none_lost in
-    both_taken (g.R.Read.remaining c.args.file.now) (g.R.Read.remaining c.read_number.new.file) (g.R.Read.remaining c.read_full.new.reader) head.0 c.read_full.new.buf (drop c.in_ok-len.len c.args.buf.now) block.0 head.1 block.1
-
-pub returns-else-got-len-clause-none_lost : goal.returns-else-got-len-clause-none_lost
-returns-else-got-len-clause-none_lost g c =
     let head = c.read_number.ensures.moved_on in
     let block = c.read_full.ensures.none_lost in
     both_taken (g.R.Read.remaining c.args.file.now) (g.R.Read.remaining c.read_number.new.file) (g.R.Read.remaining c.read_full.new.reader) head.0 c.read_full.new.buf (drop c.in_ok-len.len c.args.buf.now) block.0 head.1 block.1

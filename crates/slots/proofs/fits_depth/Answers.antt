@@ -1,18 +1,15 @@
-use Rattle.slots.proofs.CodeLaws.{fit_start, fit_1, fit_2, fit_3, fit_turn}
-use native.Mathlib.Omega.{arith}
+-- `slots::fits_depth` meets its contract. Assumes nothing.
+use Rattle.std.proofs.Common.{arith, rules, tests, not, ◌∙◌}
+use Rattle.std.proofs.lemmas.Iterator.{YieldsList-from_slice, YieldsList-from_take}
+use Rattle.std.proofs.lemmas.Iterator.Search.{all_from_yields_List}
+use Rattle.node.specs.declared.Child.{Child}
+use Rattle.slots.specs.Code.{misfits}
+use Rattle.slots.proofs.CodeLaws.{fits_all}
 use Rattle.slots.proofs.fits_depth.Goals as goal
 
-pub loop-i-init : goal.loop-i-init
-loop-i-init c = (omega arith, fit_start _ _ _)
-
-pub returns-then-count-i : goal.returns-then-count-i
-returns-then-count-i c = fit_1 _ _ _ _ c.loop-i.invariant.1 c.if-count-i.true
-
-pub returns-then-is_misfit : goal.returns-then-is_misfit
-returns-then-is_misfit c = fit_2 _ _ _ _ c.loop-i.invariant.1 c.if-count-i.false (omega arith) c.is_misfit.ensures c.if-is_misfit.true
-
-pub loop-i-preserved : goal.loop-i-preserved
-loop-i-preserved c = (omega arith, fit_turn _ _ _ _ c.loop-i.invariant.1 c.if-count-i.false (omega arith) c.is_misfit.ensures c.if-is_misfit.false)
-
 pub returns : goal.returns
-returns c = fit_3 _ _ _ _ c.loop-i.invariant.1 (omega arith)
+returns c =
+    all_from_yields_List (λ (x : Child). not (misfits c.args.depth x)) _ _ _ c.all.ensures.ran
+    (YieldsList-from_take _ (YieldsList-from_slice c.args.children cc) c.take.ensures.count)
+    (λ x b q k. search (rules, tests))
+    ∙ fits_all _ _ _ _ (omega arith) c.saturating_add.ensures

@@ -1,9 +1,16 @@
 -- `slots::free_slot` meets its contract. Assumes nothing.
-use Rattle.slots.proofs.CodeLaws.{free_1, free_2}
+use Rattle.std.proofs.Common.{arith}
+use Rattle.word.proofs.AtLaws.{clear_at_in}
+use Rattle.slots.specs.Mirror.{free_slot}
+use Rattle.slots.proofs.CodeLaws.{whole}
 use Rattle.slots.proofs.free_slot.Goals as goal
 
 pub returns-then-not-is_slot : goal.returns-then-not-is_slot
-returns-then-not-is_slot c = free_1 _ _ c.is_slot.ensures c.if-not-is_slot.true-raw
+unfolding free_slot
+returns-then-not-is_slot c = grind arith
 
 pub returns : goal.returns
-returns c = free_2 _ _ c.is_slot.ensures c.if-not-is_slot.false-raw c.start_of-at.ensures c.first_free-next.ensures c.clear.ensures c.write_u32.ensures c.write_u32-2.ensures
+unfolding free_slot
+returns c =
+    let w = whole c.args.store.now c.args.slot.0 (grind arith) in
+    grind (arith, clear_at_in, w.within)

@@ -10,17 +10,17 @@ returns-then-not-is_slot c = insert_bytes_1 _ _ _ _ _ c.is_slot.ensures c.if-not
 pub slice_bounds-splice-end : goal.slice_bounds-splice-end
 slice_bounds-splice-end c = omega (arith, (slot_whole _ _ c.is_slot.ensures c.if-not-is_slot.false-raw).within, c.start_of-at.ensures)
 
-pub returns-then-len-eq0 : goal.returns-then-len-eq0
-returns-then-len-eq0 c = insert_bytes_2 _ _ _ _ _ c.is_slot.ensures c.if-not-is_slot.false-raw c.start_of-at.ensures c.read_u32-old.ensures c.splice-len.ensures.0 c.splice-len.ensures.1 c.if-len-eq0.true
+pub returns-in_default : goal.returns-in_default
+returns-in_default c = insert_bytes_2 _ _ _ _ _ c.is_slot.ensures c.if-not-is_slot.false-raw c.start_of-at.ensures c.read_u32-old.ensures c.splice.ensures.0 c.splice.ensures.1 c.in_default.is
 
 pub overflow_cast-len : goal.overflow_cast-len
-overflow_cast-len c = omega (arith, inserted_small _ _ _ _ _ c.is_slot.ensures c.if-not-is_slot.false-raw c.start_of-at.ensures c.read_u32-old.ensures c.splice-len.ensures.0 c.splice-len.ensures.1)
+overflow_cast-len c = omega (arith, inserted_small _ _ _ _ _ c.is_slot.ensures c.if-not-is_slot.false-raw c.start_of-at.ensures c.read_u32-old.ensures c.splice.ensures.0 c.splice.ensures.1 c.in-Some.is)
 
 pub overflow_add-from-2 : goal.overflow_add-from-2
-overflow_add-from-2 c = omega (arith, inserted_small _ _ _ _ _ c.is_slot.ensures c.if-not-is_slot.false-raw c.start_of-at.ensures c.read_u32-old.ensures c.splice-len.ensures.0 c.splice-len.ensures.1, c.start_of-at.ensures)
+overflow_add-from-2 c = omega (arith, inserted_small _ _ _ _ _ c.is_slot.ensures c.if-not-is_slot.false-raw c.start_of-at.ensures c.read_u32-old.ensures c.splice.ensures.0 c.splice.ensures.1 c.in-Some.is, c.start_of-at.ensures)
 
 pub overflow_sub-len : goal.overflow_sub-len
-overflow_sub-len c = omega (arith, inserted_small _ _ _ _ _ c.is_slot.ensures c.if-not-is_slot.false-raw c.start_of-at.ensures c.read_u32-old.ensures c.splice-len.ensures.0 c.splice-len.ensures.1)
+overflow_sub-len c = omega (arith, inserted_small _ _ _ _ _ c.is_slot.ensures c.if-not-is_slot.false-raw c.start_of-at.ensures c.read_u32-old.ensures c.splice.ensures.0 c.splice.ensures.1 c.in-Some.is)
 
 pub returns : goal.returns
-returns c = insert_bytes_3 _ _ _ _ _ c.is_slot.ensures c.if-not-is_slot.false-raw c.start_of-at.ensures c.read_u32-old.ensures c.splice-len.ensures.0 c.splice-len.ensures.1 c.if-len-eq0.false c.write_u32.ensures c.clear.ensures
+returns c = insert_bytes_3 _ _ _ _ _ c.is_slot.ensures c.if-not-is_slot.false-raw c.start_of-at.ensures c.read_u32-old.ensures c.splice.ensures.0 c.splice.ensures.1 c.in-Some.is c.write_u32.ensures c.clear.ensures

@@ -1,9 +1,13 @@
 -- `slots::is_store` meets its contract. Assumes nothing.
-use Rattle.slots.proofs.CodeLaws.{store_1, store_2}
+use Rattle.std.proofs.Common.{arith}
+use Rattle.slots.specs.Layout.{is_store}
+use Rattle.slots.specs.Code.{has_size}
 use Rattle.slots.proofs.is_store.Goals as goal
 
-pub returns-then-not-has_size : goal.returns-then-not-has_size
-returns-then-not-has_size c = store_1 _ c.count.ensures c.has_size.ensures c.if-not-has_size.true-raw
+pub returns-then-has_size : goal.returns-then-has_size
+unfolding has_size is_store
+returns-then-has_size c = grind arith
 
-pub returns : goal.returns
-returns c = store_2 _ c.count.ensures c.has_size.ensures c.if-not-has_size.false-raw c.is_zero.ensures
+pub returns-else-has_size : goal.returns-else-has_size
+unfolding has_size is_store
+returns-else-has_size c = grind arith

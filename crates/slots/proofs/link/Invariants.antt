@@ -1,12 +1,7 @@
 -- `slots::link` meets its contract. The loop: the slots before i name the next, and those from i on are left to do. Assumes nothing.
-use Prim.Native.Nat.{◌≤◌, ◌-◌}
-use mathlib.Core.Path.{◌≡◌}
-use lib.ListN.{length}
+use Rattle.std.specs.Prelude.{◌≡◌, ◌-◌}
 use Rattle.slots.specs.Code.{linked}
 use Rattle.slots.proofs.link.Given as goal
 
 abbrev pub invariant-loop-i : goal.invariant-loop-i
-invariant-loop-i l = (1 ≤ l.i) × (length l.store ≡ length l.initial.store) × (linked l.initial.store 1 (l.count - 1) ≡ linked l.store l.i (l.count - l.i))
-
-abbrev pub decreases-loop-i : goal.decreases-loop-i
-decreases-loop-i l = l.count - l.i
+invariant-loop-i l = linked l.initial.store 1 (l.count - 1) ≡ linked l.store l.i (l.count - l.i)

@@ -1,6 +1,8 @@
 -- `slots::read_places` meets its contract. Assumes nothing.
-use Rattle.slots.proofs.CodeLaws.{places_are}
+use Rattle.std.proofs.Common.{arith}
+use Rattle.slots.specs.Code.{bytes_in, places_in}
 use Rattle.slots.proofs.read_places.Goals as goal
 
 pub returns : goal.returns
-returns c = places_are _ _ c.node_bytes.ensures c.read_standard.ensures
+unfolding bytes_in places_in
+returns c = grind arith

@@ -1,20 +1,28 @@
 -- `slots::search_at` meets its contract. Assumes nothing.
-use Rattle.slots.proofs.CodeLaws.{bytes_1, bytes_2, bytes_3, bytes_4, node_within}
+use Rattle.std.proofs.Common.{arith}
+use Rattle.word.specs.Pick.{pick}
+use Rattle.word.specs.Part.{part}
+use Rattle.slots.specs.Mirror.{is_slot, length_at, node_bytes, holds_node}
+use Rattle.slots.specs.Code.{slot_of, some_slot, raw_in}
 use Rattle.slots.proofs.SearchLaws.{search_at, nothing_seen}
-use native.Mathlib.Omega.{arith}
 use Rattle.slots.proofs.search_at.Goals as goal
 
-pub returns-then-slot-eq0 : goal.returns-then-slot-eq0
-returns-then-slot-eq0 c = nothing_seen _ _ _ _ _ (bytes_1 _ _ c.slot_of-slot.ensures c.if-slot-eq0.true) c.start.ensures
+pub returns-in_default : goal.returns-in_default
+unfolding is_slot slot_of some_slot holds_node raw_in pick
+returns-in_default c = nothing_seen _ _ _ _ _ (grind arith) c.start.ensures
 
 pub returns-then-len-lt-LEAST_NODE : goal.returns-then-len-lt-LEAST_NODE
-returns-then-len-lt-LEAST_NODE c = nothing_seen _ _ _ _ _ (bytes_2 _ _ c.slot_of-slot.ensures c.if-slot-eq0.false c.start_of-at.ensures c.read_u32-len.ensures c.if-len-lt-LEAST_NODE.true) c.start-then-len-lt-LEAST_NODE.ensures
+unfolding is_slot slot_of some_slot length_at holds_node raw_in pick
+returns-then-len-lt-LEAST_NODE c = nothing_seen _ _ _ _ _ (grind arith) c.start-then-len-lt-LEAST_NODE.ensures
 
 pub returns-then-len-gt-MOST_NODE : goal.returns-then-len-gt-MOST_NODE
-returns-then-len-gt-MOST_NODE c = nothing_seen _ _ _ _ _ (bytes_3 _ _ c.slot_of-slot.ensures c.if-slot-eq0.false c.start_of-at.ensures c.read_u32-len.ensures c.if-len-lt-LEAST_NODE.false c.if-len-gt-MOST_NODE.true) c.start-then-len-gt-MOST_NODE.ensures
+unfolding is_slot slot_of some_slot length_at holds_node raw_in pick
+returns-then-len-gt-MOST_NODE c = nothing_seen _ _ _ _ _ (grind arith) c.start-then-len-gt-MOST_NODE.ensures
 
 pub slice_bounds-search-end : goal.slice_bounds-search-end
-slice_bounds-search-end c = omega (arith, node_within _ _ c.slot_of-slot.ensures c.if-slot-eq0.false c.start_of-at.ensures c.read_u32-len.ensures, c.if-len-gt-MOST_NODE.false)
+unfolding is_slot slot_of some_slot pick
+slice_bounds-search-end c = grind arith
 
 pub returns : goal.returns
-returns c = search_at _ _ _ _ _ (bytes_4 _ _ c.slot_of-slot.ensures c.if-slot-eq0.false c.start_of-at.ensures c.read_u32-len.ensures c.if-len-lt-LEAST_NODE.false c.if-len-gt-MOST_NODE.false) c.search.ensures
+unfolding is_slot slot_of some_slot length_at node_bytes holds_node raw_in pick part
+returns c = search_at _ _ _ _ _ (grind arith) c.search.ensures

@@ -1,6 +1,8 @@
 -- `slots::set_root` meets its contract. Assumes nothing.
-use Rattle.slots.proofs.CodeLaws.{root_set}
+use Rattle.std.proofs.Common.{arith}
+use Rattle.slots.specs.Mirror.{set_root}
 use Rattle.slots.proofs.set_root.Goals as goal
 
 pub returns : goal.returns
-returns c = root_set _ _ _ c.write_u64.ensures c.write_u32.ensures
+unfolding set_root
+returns c = grind arith

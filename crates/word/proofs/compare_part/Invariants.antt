@@ -12,8 +12,5 @@ invariant-loop-i l = (l.len ≡ length (part l.s l.at l.n)) × (l.both ≡ min (
 abbrev pub decreases-loop-i : goal.decreases-loop-i
 decreases-loop-i l = l.both - l.i
 
-abbrev pub invariant-loop-i-2 : goal.invariant-loop-i-2
-invariant-loop-i-2 l = (l.len ≡ length (part l.s l.at l.n)) × (l.both ≡ min (length l.key) l.len) × (l.i ≤ l.both) × (part l.key 0 l.i ≡ part l.s l.at l.i)
-
-abbrev pub decreases-loop-i-2 : goal.decreases-loop-i-2
-decreases-loop-i-2 l = l.both - l.i
+abbrev pub invariant-loop-j : goal.invariant-loop-j
+invariant-loop-j l = (l.len ≡ length (part l.s l.at l.n)) × (l.both ≡ min (length l.key) l.len) × (l.j ≤ l.both) × (part l.key 0 l.j ≡ part l.s l.at l.j)

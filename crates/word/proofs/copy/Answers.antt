@@ -1,8 +1,8 @@
-use mathlib.Core.Path.{refl, sym}
-use lib.ListN.{length-set}
+-- `word::copy` meets its contract. Assumes nothing.
+use mathlib.Core.Path.{sym}
 use native.Mathlib.Omega.{arith}
 use Rattle.word.proofs.AtLaws.{fitted, unfitted, copy_at_out, copy_at_short}
-use Rattle.word.proofs.CodeLaws.{copy_start, copy_turn, copy_end}
+use Rattle.word.proofs.CodeLaws.{copy_in}
 use Rattle.word.proofs.copy.Goals as goal
 
 pub returns-then-not-fits : goal.returns-then-not-fits
@@ -11,11 +11,17 @@ returns-then-not-fits c = sym (copy_at_out _ _ _ _ _ (unfitted _ _ _ c.fits.ensu
 pub returns-then-not-fits-2 : goal.returns-then-not-fits-2
 returns-then-not-fits-2 c = sym (copy_at_short _ _ _ _ _ (unfitted _ _ _ c.fits-2.ensures c.if-not-fits-2.true))
 
-pub loop-i-init : goal.loop-i-init
-loop-i-init c = (omega arith, fitted _ _ _ c.fits.ensures c.if-not-fits.false, fitted _ _ _ c.fits-2.ensures c.if-not-fits-2.false, refl, copy_start _ _ _ _)
+pub overflow_add-at : goal.overflow_add-at
+overflow_add-at c = omega (arith, fitted _ _ _ c.fits.ensures c.if-not-fits.false)
 
-pub loop-i-preserved : goal.loop-i-preserved
-loop-i-preserved c = (omega arith, c.loop-i.invariant.1, c.loop-i.invariant.2, simp length-set (omega arith), copy_turn _ _ _ _ _ (omega arith) (omega arith) c.loop-i.invariant.4)
+pub slice_bounds-copy_from_slice-end : goal.slice_bounds-copy_from_slice-end
+slice_bounds-copy_from_slice-end c = fitted _ _ _ c.fits.ensures c.if-not-fits.false
+
+pub overflow_add-from : goal.overflow_add-from
+overflow_add-from c = omega (arith, fitted _ _ _ c.fits-2.ensures c.if-not-fits-2.false)
+
+pub slice_bounds-copy_from_slice-end-2 : goal.slice_bounds-copy_from_slice-end-2
+slice_bounds-copy_from_slice-end-2 c = fitted _ _ _ c.fits-2.ensures c.if-not-fits-2.false
 
 pub returns : goal.returns
-returns c = copy_end _ _ _ _ _ (omega arith) c.loop-i.invariant.1 c.loop-i.invariant.2 c.loop-i.invariant.4
+returns c = copy_in _ _ _ _ _ (fitted _ _ _ c.fits.ensures c.if-not-fits.false) (fitted _ _ _ c.fits-2.ensures c.if-not-fits-2.false) c.copy_from_slice.ensures.after

@@ -1,14 +1,10 @@
 -- `btree::records::run_all` meets its contract. Assumes nothing.
 use mathlib.Core.Path.{◌≡◌}
-use lib.ListN.{length}
-use Prim.Native.Nat.{◌*◌, ◌-◌, ◌^◌, ◌≤◌}
-use Rattle.changes.specs.declared.Checked.TheVariants.{Fine}
+use Prim.Native.Nat.{◌*◌, ◌^◌, ◌≤◌}
+use Rattle.std.specs.Prelude.{Ok}
 use Rattle.changes.specs.Records.{check_of}
 use Rattle.btree.proofs.RunsCode.{RunsLeft}
 use Rattle.btree.proofs.records.run_all.Given as goal
 
-abbrev pub invariant-loop-n : goal.invariant-loop-n
-invariant-loop-n l = (l.n ≤ 65535) × (l.applied ≤ l.n * 2 ^ 32) × (length l.store ≡ length l.initial.store) × (check_of l.records ≡ Fine → RunsLeft l.records l.initial.store l.store l.at l.applied l.n)
-
-abbrev pub decreases-loop-n : goal.decreases-loop-n
-decreases-loop-n l = 65535 - l.n
+abbrev pub invariant-loop : goal.invariant-loop
+invariant-loop l = (l.applied ≤ l.counter * 2 ^ 32) × (check_of l.records ≡ Ok tt → RunsLeft l.records l.initial.store l.store l.at l.applied l.counter)

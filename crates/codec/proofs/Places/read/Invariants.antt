@@ -1,10 +1,6 @@
 -- `codec::Places::read` meets its contract. The loop: what is left to scan, filled in behind what was read, makes the whole. Assumes nothing.
-use Prim.Native.Nat.{◌≤◌, ◌-◌}
 use Rattle.codec.proofs.FillLaws.{Left}
 use Rattle.codec.proofs.Places.read.Given as goal
 
 abbrev pub invariant-loop-i : goal.invariant-loop-i
-invariant-loop-i l = (l.i ≤ 8) × Left l.s l.places l.at l.i
-
-abbrev pub decreases-loop-i : goal.decreases-loop-i
-decreases-loop-i l = 8 - l.i
+invariant-loop-i l = Left l.s l.places l.at l.i

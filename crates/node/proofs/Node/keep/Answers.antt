@@ -1,10 +1,10 @@
 -- `node::Node::keep` meets its contract. Assumes nothing.
-use Rattle.node.proofs.EditCode.{length_under, keep_1, keep_2}
 use borrow.Author.Rules.{rules}
+use Rattle.node.proofs.EditCode.{length_under, keep_1, keep_2}
 use Rattle.node.proofs.Node.keep.Goals as goal
 
-pub returns-then-m-gt8 : goal.returns-then-m-gt8
-returns-then-m-gt8 c = keep_1 _ _ c.if-m-gt8.true
+pub returns-then-m-le8 : goal.returns-then-m-le8
+returns-then-m-le8 c = keep_2 c.args.self (search (rules, length_under), search (rules, length_under), search rules, search rules) _ c.if-m-le8.true (c.fill.ensures.after (λ y h. h)) (c.fill-then-m-le8.ensures.after (λ y h. h)) (c.fill-then-m-le8-2.ensures.after (λ y h. h)) (c.fill-then-m-le8-3.ensures.after (λ y h. h))
 
-pub returns : goal.returns
-returns c = keep_2 c.args.self (search (rules, length_under), search (rules, length_under), search rules, search rules) _ c.if-m-gt8.false c.copy_children-children.ensures c.copy_values-values.ensures c.copy_lens-lens.ensures c.part_of_keys-keys.ensures
+pub returns-else-m-le8 : goal.returns-else-m-le8
+returns-else-m-le8 c = keep_1 _ _ c.if-m-le8.false

@@ -1,9 +1,10 @@
 -- `node::Node::shift_from` meets its contract. Assumes nothing.
-use Rattle.node.proofs.EditCode.{shift_1, shift_2}
+use borrow.Author.Rules.{rules}
+use Rattle.node.proofs.EditCode.{length_under, shift_1, shift_2}
 use Rattle.node.proofs.Node.shift_from.Goals as goal
 
-pub returns-then-count-gt7 : goal.returns-then-count-gt7
-returns-then-count-gt7 c = shift_1 _ _ _ _ _ c.if-count-gt7.true
+pub returns-then-self-lt8 : goal.returns-then-self-lt8
+returns-then-self-lt8 c = shift_2 c.args.self _ _ _ _ (search (rules, length_under), search (rules, length_under), search rules, search rules) c.if-self-lt8.true c.open.ensures c.open-then-self-lt8.ensures c.open-then-self-lt8-2.ensures c.open_keys.ensures
 
-pub returns : goal.returns
-returns c = shift_2 _ _ _ _ _ c.if-count-gt7.false c.open_children-children.ensures c.open_values-values.ensures c.open_lens-lens.ensures c.open_keys.ensures
+pub returns-else-self-lt8 : goal.returns-else-self-lt8
+returns-else-self-lt8 c = shift_1 _ _ _ _ _ c.if-self-lt8.false

@@ -3,4 +3,4 @@ use Rattle.node.proofs.EditCode.{new_separator}
 use Rattle.node.proofs.Separator.new.Goals as goal
 
 pub returns : goal.returns
-returns c = new_separator _ _ c.least-len.ensures c.copy.ensures
+returns c = new_separator _ _ c.min-len.ensures c.copy.ensures

@@ -1,10 +1,10 @@
 -- `node::edit::close_keys` meets its contract. Assumes nothing.
-use Rattle.node.proofs.MoveLaws.{closed_down, closed_none}
 use borrow.Author.Rules.{rules}
+use Rattle.node.proofs.EditCode.{closed_keys, closed_past}
 use Rattle.node.proofs.edit.close_keys.Goals as goal
 
-pub returns-then-at-lt2304 : goal.returns-then-at-lt2304
-returns-then-at-lt2304 c = closed_down _ _ (search rules) c.least-at.ensures c.move_down.ensures c.if-at-lt2304.true c.clear.ensures
+pub returns-then-i-lt8 : goal.returns-then-i-lt8
+returns-then-i-lt8 c = closed_keys _ _ (search rules) c.if-i-lt8.true c.enter_behind.ensures
 
-pub returns-else-at-lt2304 : goal.returns-else-at-lt2304
-returns-else-at-lt2304 c = closed_none _ _ (search rules) c.least-at.ensures c.move_down.ensures c.if-at-lt2304.false
+pub returns-else-i-lt8 : goal.returns-else-i-lt8
+returns-else-i-lt8 c = closed_past _ _ (search rules) c.if-i-lt8.false

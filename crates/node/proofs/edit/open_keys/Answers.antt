@@ -1,7 +1,10 @@
 -- `node::edit::open_keys` meets its contract. Assumes nothing.
-use Rattle.node.proofs.MoveLaws.{opened_up}
 use borrow.Author.Rules.{rules}
+use Rattle.node.proofs.EditCode.{opened_keys, opened_past}
 use Rattle.node.proofs.edit.open_keys.Goals as goal
 
-pub returns : goal.returns
-returns c = opened_up _ _ _ (search rules) (search rules) c.least-at.ensures c.move_up.ensures c.copy.ensures
+pub returns-then-i-lt8 : goal.returns-then-i-lt8
+returns-then-i-lt8 c = opened_keys _ _ (search rules) _ c.if-i-lt8.true c.enter_front.ensures
+
+pub returns-else-i-lt8 : goal.returns-else-i-lt8
+returns-else-i-lt8 c = opened_past _ _ (search rules) _ c.if-i-lt8.false

@@ -16,8 +16,8 @@ overflow_add-at c = omega (arith, fitted _ _ _ c.fits.ensures c.if-not-fits.fals
 pub returns-then-at-s : goal.returns-then-at-s
 returns-then-at-s c = λ t k l. last_behind t _ _ k _ _ l c.fits.ensures c.if-not-fits.false-raw c.read_u64.ensures c.is_misfit.ensures c.if-is_misfit.false c.if-at-s.true c.spoilt-then-at-s.ensures
 
-pub returns-then-not-sight : goal.returns-then-not-sight
-returns-then-not-sight c = λ t k l. last_seen t _ _ k _ _ l c.fits.ensures c.if-not-fits.false-raw c.read_u64.ensures c.is_misfit.ensures c.if-is_misfit.false c.if-at-s.false c.if-not-sight.true
+pub returns-then-not-self : goal.returns-then-not-self
+returns-then-not-self c = λ t k l. last_seen t _ _ k _ _ l c.fits.ensures c.if-not-fits.false-raw c.read_u64.ensures c.is_misfit.ensures c.if-is_misfit.false c.if-at-s.false c.if-not-self.true
 
-pub returns-else-not-sight : goal.returns-else-not-sight
-returns-else-not-sight c = λ t k l. last_passed t _ _ k _ _ l c.fits.ensures c.if-not-fits.false-raw c.read_u64.ensures c.is_misfit.ensures c.if-is_misfit.false c.if-at-s.false c.if-not-sight.false
+pub returns-else-not-self : goal.returns-else-not-self
+returns-else-not-self c = λ t k l. last_passed t _ _ k _ _ l c.fits.ensures c.if-not-fits.false-raw c.read_u64.ensures c.is_misfit.ensures c.if-is_misfit.false c.if-at-s.false c.if-not-self.false

@@ -1,6 +1,0 @@
--- The loop of `lay_out` stays within the block.
-use Rattle.std.proofs.Common.{◌≤◌, length}
-use Rattle.audits.proofs.laid.lay_out.Given as goal
-
-abbrev pub invariant-loop : goal.invariant-loop
-invariant-loop l = l.at ≤ length l.block
