@@ -28,7 +28,7 @@ room (suc k) (suc b) w h l z =
 
 -- ---- counting
 
-count_turn : (ws : List ℕ) (i : ℕ) → i < length ws → all_ones (take (i + 1) ws) ≡ all_ones (take i ws) + ones (get_or ws i 0)
+pub count_turn : (ws : List ℕ) (i : ℕ) → i < length ws → all_ones (take (i + 1) ws) ≡ all_ones (take i ws) + ones (get_or ws i 0)
 unfolding all_ones
 count_turn [] i h = absurd (omega arith)
 count_turn (w ∷ ws) zero h = omega arith

@@ -21,7 +21,8 @@ use Rattle.tree.proofs.Replay.{batch_again, batch_merged}
 use Rattle.slots.specs.Stands.{Audited}
 use Rattle.slots.specs.Entries.{entries_of}
 use Rattle.slots.proofs.Unique.{one_store}
-use Rattle.slots.proofs.AuditedLaws.{audited_entries}
+use Rattle.slots.specs.Layout.{count_of}
+use Rattle.slots.proofs.AuditedLaws.{stands_based, audited_count, audited_entries}
 use Rattle.outcome.specs.RunMirror.{bad, done, no_room, Ended}
 use Rattle.btree.proofs.Runs.{FitOp, FitRecs, end_of, EndedAs, batch_m, batch_ended}
 
@@ -74,6 +75,12 @@ module _ (s : List ℕ) (h : Audited s) (rs : List (Rec ℕ)) (f : FitRecs rs) w
 
   abbrev pub batch_audited : Audited (batch_m rs s).store
   batch_audited = record { count = h.count; least = h.least; most = h.most; store = rooted told.state; stands = batch_ends.stands; good = batch_ends.good }
+
+  pub batch_count : count_of (batch_m rs s).store ≡ count_of s
+  batch_count = audited_count (batch_m rs s).store batch_audited ∙ sym (audited_count s h)
+
+  pub batch_length : length (batch_m rs s).store ≡ length s
+  batch_length = batch_ends.stands.base.size ∙ sym (stands_based h.count s h.store h.stands).size
 
   -- the entries for the records that were applied
   pub batch_entries : (es : List (Sep ℕ)) → entries_of s ≡ some es → entries_of (batch_m rs s).store ≡ some (apply_all (take (batch_m rs s).applied rs) es)

@@ -60,7 +60,7 @@ module _ (s : List ℕ) (at : ℕ) where
     pub change_whole : next_at s at ≤ length s
     change_whole = stands_true stands_here
 
-    pub change_is : c ≡ record { value = then_some (eqb (kind_at s at) 1) (record { 0 = value_at s at }); start = at + 11; len = len_at s at; next = next_at s at }
+    pub change_is : c ≡ record { value = then_some (eqb (kind_at s at) 1) (record { 0 = value_at s at }); number = value_at s at; start = at + 11; len = len_at s at; next = next_at s at }
     unfolding change_at
     change_is = let z = read ∙ pick_t _ _ stands_here in cc
 

@@ -73,7 +73,7 @@ module _ (s : List ℕ) (at : ℕ) where
 
   -- the same as the code has it; none where no whole record stands
   unfoldable pub change_at : std.Option Change
-  change_at = pick stands_at (Some (record { value = then_some (eqb kind_at 1) (record { 0 = value_at }); start = at + 11; len = len_at; next = next_at })) None
+  change_at = pick stands_at (Some (record { value = then_some (eqb kind_at 1) (record { 0 = value_at }); number = value_at; start = at + 11; len = len_at; next = next_at })) None
 
   -- "3 | record cut short or unknown kind"
   unfoldable pub is_known : Bool

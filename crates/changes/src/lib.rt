@@ -36,11 +36,13 @@ impl Refusal for RecordError {
     }
 }
 
-// A record: the value that a set gives its key, none for a dereference; where the key stands, and the place behind it.
+// A record: the value that a set gives its key, none for a dereference; the number that stands in the value's place ("value u64 (0
+// for kind 2)"), of any kind; where the key stands, and the place behind it.
 // `next` is start + len: it stays, or each of four callers would add and prove the sum anew.
 #[derive(Clone, Copy)]
 pub struct Change {
     pub value: Option<Value>,
+    pub number: u64,
     pub start: usize,
     pub len: usize,
     pub next: usize,
@@ -81,6 +83,7 @@ pub fn change_at(records: &[u8], at: usize) -> Option<Change>
     let start = at + 11;
     Some(Change {
         value: (kind == SET).then_some(Value(value)),
+        number: value,
         start,
         len,
         next: start + len,

@@ -117,7 +117,7 @@ module _ (text d : List ℕ) where
   unfolding encode_records
   lines_start = record { done = []; says = after_none (lines_of text); place = refl; fits = omega arith; bytes = sym (over_none d 0) }
 
-  placed_none : (e : List ℕ) → fitting (length d) (lines_of text) ≡ none → Placed text d None e
+  pub placed_none : (e : List ℕ) → fitting (length d) (lines_of text) ≡ none → Placed text d None e
   unfolding PlacedAll
   placed_none e p = rw p refl
 

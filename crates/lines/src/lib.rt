@@ -37,7 +37,7 @@ fn find(s: &[u8], b: u8) -> Option<usize>
 fn is_word(field: &[u8], name: &[u8]) -> bool
     ensures { result ≡ compare_is_eq (cmp field.now name.now) }
 {
-    field == name
+    word::compare(field, name).is_eq()
 }
 
 // What a digit counts.

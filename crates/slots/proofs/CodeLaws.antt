@@ -381,6 +381,10 @@ module _ (s : List ℕ) (x : ℕ) where
   unfolding reading_in reading_of
   node_in_lem = refl
 
+  pub places_in_lem : places_in s x ≡ layout.layout (scan (bytes_in s x))
+  unfolding places_in places_of
+  places_in_lem = refl
+
   -- the chain can be written
   pub writable_in : Bytes s → Writable (first_in s x) (rest_in s x)
   writable_in b = scan_writable (bytes_in s x) (bytes_small b)

@@ -112,9 +112,21 @@ module _ (s t : List ℕ) (head : head_of t ≡ head_of s) (size : length t ≡ 
   field_kept : (k at : ℕ) → at + k ≤ header_size → read_at k t at ≡ read_at k s at
   field_kept k at h = read_at_same k t s at size (sym (head_part t at k h) ∙ ap (λ (u : List ℕ). part u at k) head ∙ head_part s at k h)
 
+  pub root_kept : root_of t ≡ root_of s
+  unfolding root_of
+  root_kept = field_kept 8 0 (omega arith)
+
+  pub depth_kept : depth_of t ≡ depth_of s
+  unfolding depth_of
+  depth_kept = field_kept 4 8 (omega arith)
+
   pub count_kept : count_of t ≡ count_of s
   unfolding count_of
   count_kept = field_kept 4 12 (omega arith)
+
+  pub first_kept : first_of t ≡ first_of s
+  unfolding first_of
+  first_kept = field_kept 4 16 (omega arith)
 
 -- ---- no refusal 1
 

@@ -121,11 +121,30 @@ read_in k s at {b} h e f =
     let l : length b ≡ suc k = ap length e ∙ length_part s at (suc k) h in
     f ∙ le_un b k l ∙ ap un e ∙ sym (read_at_in (suc k) s at h)
 
-pub write_in : (k : ℕ) (s : List ℕ) (at x : ℕ) {b : List ℕ} → at + suc k ≤ length s → b ≡ bytes_low_first 0 (suc k) x → put_mid at (at + suc k - at) s b ≡ write_at (suc k) s at x
-write_in k s at x h e =
-    let q = e ∙ to_le k x in
+pub write_in : (k : ℕ) (s : List ℕ) (at x : ℕ) {y : ℕ} {b : List ℕ} → at + suc k ≤ length s → b ≡ bytes_low_first 0 (suc k) y → y ≡ x → put_mid at (at + suc k - at) s b ≡ write_at (suc k) s at x
+write_in k s at x h e w =
+    let q = e ∙ ap (bytes_low_first 0 (suc k)) w ∙ to_le k x in
     let m = as_many_as at (suc k) in
     rw (q, m) (put_over s at (suc k) (le (suc k) x) (length_le (suc k) x) ∙ sym (write_at_in (suc k) s at x h))
+
+-- it reads, from the second byte on, bs at a + i, a + i + 1 and so on
+abbrev pub Reads : List ℕ → ℕ → ℕ → List ℕ → Type 0
+Reads s a i [] = Unit {0}
+Reads s a i (b ∷ bs) = (b ≡ get_or s (a + i) 0) × Reads s a (suc i) bs
+
+reads_part : (s : List ℕ) (a i : ℕ) (bs : List ℕ) → a + i + length bs ≤ length s → Reads s a i bs → bs ≡ part s (a + i) (length bs)
+unfolding part
+reads_part s a i [] h r = refl
+reads_part s a i (b ∷ bs) h r =
+    let e : a + suc i ≡ suc (a + i) = omega arith in
+    let ih = rw e at (reads_part s a (suc i) bs (omega arith) r.1) in
+    rw (drop-cons s (a + i) 0 (omega arith)) (cc (r.0, ih))
+
+-- a number of bytes read one by one is that of the part
+pub reads_by : (s : List ℕ) (at b : ℕ) (bs : List ℕ) {v : ℕ} (f : List ℕ → ℕ) → v ≡ f (b ∷ bs) → at + suc (length bs) ≤ length s → b ≡ get_or s at 0 → Reads s at 1 bs → v ≡ f (part s at (suc (length bs)))
+reads_by s at b bs f q h p r =
+    let e : at + 0 ≡ at = omega arith in
+    q ∙ ap f (rw e at (reads_part s at 0 (b ∷ bs) (omega arith) (rw e p, r)))
 
 pub part_of : (s : List ℕ) (at n : ℕ) {b : List ℕ} → b ≡ take (at + n - at) (drop at s) → b ≡ part s at n
 part_of s at n e = e ∙ unfold part in rw (as_many_as at n)
@@ -193,9 +212,12 @@ module _ (key s : List ℕ) (at n i : ℕ) (front : part key 0 i ≡ part s at i
       ∙ cmp_front (part key 0 i) (drop i key) (drop i p)
 
   -- one of both has ended, and so their lengths decide
-  pub compare_rest : {len : ℕ} {o : Order} → len ≡ length (part s at n) → min (length key) len ≤ i → i ≤ length key → o ≡ nat_cmp (length key) len → o ≡ order_of (cmp key (part s at n))
-  compare_rest {len} {o} e h g a = go (leb len (length key)) refl
+  pub compare_rest : {len x y : ℕ} {o : Order} → len ≡ length (part s at n) → min (length key) len ≤ i → i ≤ length key → o ≡ nat_cmp x y → x ≡ length key → y ≡ len → o ≡ order_of (cmp key (part s at n))
+  compare_rest {len} {x} {y} {o} e h g r p q = go (leb len (length key)) refl
     where
+      a : o ≡ nat_cmp (length key) len
+      a = rw (p, q) at r
+
       ended_lem : length key ≡ len → Equal ≡ order_of (cmp key (part s at n))
       ended_lem q = let w : length key ≤ i = omega arith in let z : length (part s at n) ≤ i = omega arith in rw (behind_lem, drop_of_length-le key w, drop_of_length-le (part s at n) z)
 
@@ -240,10 +262,10 @@ module _ (key s : List ℕ) (at n i : ℕ) (front : part key 0 i ≡ part s at i
           ∙ rw (drop_split key i k, drop_split (part s at n) i k, in_part)
           (cmp_append (part key i k) (part s (at + i) k) (drop (i + k) key) (drop (i + k) (part s at n)) as_many ∙ rw numbers)
 
-      compare_less : v < w → Less ≡ order_of (cmp key (part s at n))
+      pub compare_less : v < w → Less ≡ order_of (cmp key (part s at n))
       compare_less l = rw (more, num_lt v w l)
 
-      compare_greater : w < v → Greater ≡ order_of (cmp key (part s at n))
+      pub compare_greater : w < v → Greater ≡ order_of (cmp key (part s at n))
       compare_greater l = rw (more, num_gt v w l)
 
       -- numbers that differ decide
@@ -255,6 +277,6 @@ module _ (key s : List ℕ) (at n i : ℕ) (front : part key 0 i ≡ part s at i
           go false t = let l = leb-false w v t in a ∙ sym (nat_cmp_is v w Less l) ∙ compare_less l
 
       -- those that differ as they stand differ here too
-      pub unlike_number : {x y : ℕ} {o : Order} → x ≡ un (part key i k) → y ≡ un (part s (at + i) k) → (x ≡ y → ⊥) → o ≡ nat_cmp v w → o ≡ order_of (cmp key (part s at n))
-      unlike_number r t d =
-          compare_number (λ z. d (r ∙ ap un (cmp_eq (part key i k) (part s (at + i) k) (numbers ∙ rw z (num_refl w))) ∙ sym t))
+      pub unlike_number : {x y l r : ℕ} {o : Order} → x ≡ un (part key i k) → y ≡ un (part s (at + i) k) → (x ≡ y → ⊥) → o ≡ nat_cmp l r → l ≡ v → r ≡ w → o ≡ order_of (cmp key (part s at n))
+      unlike_number p t d c a b =
+          compare_number (λ z. d (p ∙ ap un (cmp_eq (part key i k) (part s (at + i) k) (numbers ∙ rw z (num_refl w))) ∙ sym t)) (rw (a, b) at c)

@@ -1,7 +1,7 @@
 -- `lines::is_word` meets its contract: equal bytes are those of which neither is below. Assumes nothing.
-use mathlib.Core.Path.{◌∙◌}
-use Rattle.word.proofs.KeyOrder.{equal_cmp}
+use Rattle.word.specs.Key.{cmp}
+use Rattle.changes.proofs.RecordLaws.{equal_is}
 use Rattle.lines.proofs.is_word.Goals as goal
 
 pub returns : goal.returns
-returns c = c.eq.ensures ∙ equal_cmp c.args.field.now c.args.name.now
+returns c = equal_is (cmp c.args.field.now c.args.name.now) c.compare.ensures c.is_eq.ensures

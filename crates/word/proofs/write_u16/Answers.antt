@@ -12,7 +12,7 @@ pub slice_bounds-copy_from_slice-end : goal.slice_bounds-copy_from_slice-end
 slice_bounds-copy_from_slice-end c = fitted _ _ _ c.fits.ensures c.if-fits.true
 
 pub returns-then-fits : goal.returns-then-fits
-returns-then-fits c = write_in 1 _ _ c.args.x (fitted _ _ _ c.fits.ensures c.if-fits.true) (c.copy_from_slice.ensures.after ∙ c.to_le_bytes.ensures)
+returns-then-fits c = write_in 1 _ _ c.args.x (fitted _ _ _ c.fits.ensures c.if-fits.true) (c.copy_from_slice.ensures.after ∙ c.to_le_bytes.ensures) (omega arith)
 
 pub returns-else-fits : goal.returns-else-fits
 returns-else-fits c = sym (write_at_out _ _ _ _ (unfitted _ _ _ c.fits.ensures c.if-fits.false))
