@@ -86,8 +86,8 @@ fn run_batch(store: &mut [u8], records: &[u8]) -> Batched
     }
 }
 
-// "Batch order: 1, 2, then records from the front .., then 8, then the run." In its caller, so that an answer isn't handed back in
-// memory: that is a third of what a refusal with 1 takes.
+// "Batch order: 1, 2, then records from the front .., then 8, then the run." Compiled into its caller: an answer handed back in memory
+// makes a refusal with 1 take a third more.
 #[inline(always)]
 pub fn batch(store: &mut [u8], marks: &mut [u64], records: &[u8]) -> Batched
     ensures { Batches store.old marks.old records.now result store.new marks.new }

@@ -84,6 +84,9 @@ pub fn filled(s: &[u8], from: usize, b: u8) -> bool
     s.iter().skip(from).all(|x| *x == b)
 }
 
+// How many bytes of a block say how long its buffer is and how many parts follow.
+pub const BUFFER_HEAD: usize = 6;
+
 // Copies a part to its place in a buffer that has room for it there.
 fn put(room: &mut [u8], at: usize, part: &[u8]) {
     if at <= room.len() && part.len() <= room.len() - at {
@@ -102,7 +105,7 @@ pub fn lay_out(room: &mut [u8], block: &[u8]) -> Span
 {
     let len = number(block, 0, 4) as usize;
     let parts = number(block, 4, 2) as usize;
-    let mut at = place(block, 0, 6).end;
+    let mut at = place(block, 0, BUFFER_HEAD).end;
     for _ in 0..parts {
         let part = part(block, at + 4);
         put(

@@ -9,12 +9,9 @@ use std::fs::File;
 use std::io;
 use std::io::{Read, Write};
 
-// How many bytes of a block say how long its buffer is and how many parts follow.
-const HEAD: usize = 6;
-
-// Asks the front of the buffer; where it has no such front, or the block ends within its head, no question is counted.
+// Asks the front of the buffer; where it has no such front, or the block ends before one is described, no question is counted.
 fn ask_front(room: &[u8], len: usize, block: &[u8], from: usize, tally: Tally) -> Tally {
-    if room.len() < len || block.len() < HEAD {
+    if room.len() < len || block.len() < lists::BUFFER_HEAD {
         return tally;
     }
     asked::ask(&room[..len], block, from, tally)
